@@ -1,0 +1,133 @@
+-- Which ELF files are accepted (ELF-32, big-endian, executable, MIPS), as conditions on the bytes at
+-- stated offsets. Sums are of whole numbers and do not wrap.
+use Rattle.std.specs.Prelude.{ℕ, ◌+◌, ◌*◌, ◌%◌, ◌==◌, ◌&&◌, ◌||◌, not, Bool, true, false, List, [], ◌∷◌, ◌++◌, length, map, nat_le, slice_index, Some, None, if◌then◌else◌}
+use Rattle.std.specs.List.{list_all, range_with_len}
+use Rattle.std.specs.declared.option.Option.{Option}
+use Rattle.s2_base.specs.Map.{place_at, is_between}
+use Rattle.s2_base.specs.declared.places.Place.{Place}
+use Rattle.s2_base.specs.declared.places.Place.TheVariants.{Local, Boot, Global, Device, Nowhere}
+use Rattle.s2_elf.specs.declared.fault.ElfFault.{ElfFault}
+use Rattle.s2_elf.specs.declared.fault.ElfFault.TheVariants.{Short, Magic, Class, Order, Version, Kind, Machine, TooMany, HeaderSize, TableOutside, Dynamic, Bounds, FileOutside, Placed, Entry}
+
+-- the number of two and of four bytes, most significant byte first
+abbrev pub half_at : List ℕ → ℕ → ℕ
+half_at bytes i = slice_index bytes i * 256 + slice_index bytes (i + 1)
+
+abbrev pub number_at : List ℕ → ℕ → ℕ
+number_at bytes i = ((slice_index bytes i * 256 + slice_index bytes (i + 1)) * 256 + slice_index bytes (i + 2)) * 256 + slice_index bytes (i + 3)
+
+-- the fields of the file's header that are looked at, beside those that have one right value
+abbrev pub entry_of : List ℕ → ℕ
+entry_of bytes = number_at bytes 24
+
+abbrev pub table_of : List ℕ → ℕ
+table_of bytes = number_at bytes 28
+
+abbrev pub count_of : List ℕ → ℕ
+count_of bytes = half_at bytes 44
+
+-- the fields of a program header that are looked at
+pub record ProgramHeader : Type 0 where
+  pub kind : ℕ
+  pub offset : ℕ
+  pub vaddr : ℕ
+  pub filesz : ℕ
+  pub memsz : ℕ
+
+abbrev pub header_at : List ℕ → ℕ → ProgramHeader
+header_at bytes i = record {
+  kind = number_at bytes i;
+  offset = number_at bytes (i + 4);
+  vaddr = number_at bytes (i + 8);
+  filesz = number_at bytes (i + 16);
+  memsz = number_at bytes (i + 20);
+}
+
+-- the program headers, 32 bytes each
+abbrev pub headers_of : List ℕ → List ProgramHeader
+headers_of bytes = map (λ i. header_at bytes (table_of bytes + 32 * i)) (range_with_len 0 (count_of bytes))
+
+-- local memory, boot store and global memory are loaded; an entry lies in the first two
+abbrev pub is_memory : Place → Bool
+is_memory (Local i) = true
+is_memory (Boot i) = true
+is_memory (Global i) = true
+is_memory (Device k) = false
+is_memory Nowhere = false
+
+abbrev pub is_store_of_code : Place → Bool
+is_store_of_code (Local i) = true
+is_store_of_code (Boot i) = true
+is_store_of_code (Global i) = false
+is_store_of_code (Device k) = false
+is_store_of_code Nowhere = false
+
+-- a byte may be loaded at a virtual address of kseg0 or kseg1, which stands for its low 29 bits
+abbrev pub is_loadable : ℕ → Bool
+is_loadable va = is_between 0x80000000 va 0xC0000000 && is_memory (place_at (va % 0x20000000))
+
+abbrev pub is_entry : ℕ → Bool
+is_entry va = (va % 4 == 0) && is_between 0x80000000 va 0xC0000000 && is_store_of_code (place_at (va % 0x20000000))
+
+-- the conditions on the table of program headers, each with its refusal, in their order
+abbrev pub table_conditions : List ℕ → List (Bool × ElfFault)
+table_conditions bytes =
+    (nat_le (count_of bytes) 64, TooMany (count_of bytes))
+    ∷ ((count_of bytes == 0 || half_at bytes 42 == 32), HeaderSize)
+    ∷ ((count_of bytes == 0 || nat_le (table_of bytes + 32 * count_of bytes) (length bytes)), TableOutside)
+    ∷ []
+
+-- the conditions on the file's header, and then those on the table
+abbrev pub file_conditions : List ℕ → List (Bool × ElfFault)
+file_conditions bytes =
+    (nat_le 52 (length bytes), Short (length bytes))
+    ∷ (number_at bytes 0 == 0x7F454C46, Magic)
+    ∷ (slice_index bytes 4 == 1, Class)
+    ∷ (slice_index bytes 5 == 2, Order)
+    ∷ ((slice_index bytes 6 == 1 && number_at bytes 20 == 1), Version)
+    ∷ (half_at bytes 16 == 2, Kind)
+    ∷ (half_at bytes 18 == 8, Machine)
+    ∷ table_conditions bytes
+
+-- no program header is dynamic linking's (2) or an interpreter (3)
+abbrev pub static_conditions : ℕ → List ProgramHeader → List (Bool × ElfFault)
+static_conditions i [] = []
+static_conditions i (h ∷ hs) = (not (h.kind == 2 || h.kind == 3), Dynamic i) ∷ static_conditions (i + 1) hs
+
+-- the three conditions on a segment that is loaded (1): file bytes fit memory bytes, the file has them,
+-- and each byte of memory may be loaded
+abbrev pub segment_conditions : ℕ → ℕ → ProgramHeader → List (Bool × ElfFault)
+segment_conditions size i h =
+    (nat_le h.filesz h.memsz, Bounds i)
+    ∷ ((h.filesz == 0 || nat_le (h.offset + h.filesz) size), FileOutside i)
+    ∷ (list_all (λ k. is_loadable (h.vaddr + k)) (range_with_len 0 h.memsz), Placed i)
+    ∷ []
+
+abbrev pub load_conditions : ℕ → ℕ → List ProgramHeader → List (Bool × ElfFault)
+load_conditions size i [] = []
+load_conditions size i (h ∷ hs) = (if h.kind == 1 then segment_conditions size i h else []) ++ load_conditions size (i + 1) hs
+
+-- all conditions of a file, in their order
+abbrev pub conditions : List ℕ → List (Bool × ElfFault)
+conditions bytes =
+    ((file_conditions bytes ++ static_conditions 0 (headers_of bytes)) ++ load_conditions (length bytes) 0 (headers_of bytes))
+    ++ (is_entry (entry_of bytes), Entry) ∷ []
+
+-- the first condition that is false
+abbrev pub first_false : List (Bool × ElfFault) → Option ElfFault
+first_false [] = None
+first_false (c ∷ cs) = if c.0 then first_false cs else Some c.1
+
+abbrev pub refusal : List ℕ → Option ElfFault
+refusal bytes = first_false (conditions bytes)
+
+-- every condition holds
+abbrev pub accepts : List ℕ → Bool
+accepts bytes = list_all (λ (c : Bool × ElfFault). c.0) (conditions bytes)
+
+-- the files that the loader reads today: one program header, and it is a segment that is loaded
+abbrev pub is_single : List ℕ → Bool
+is_single bytes = (count_of bytes == 1) && ((header_at bytes (table_of bytes)).kind == 1)
+
+abbrev pub is_readable : List ℕ → Bool
+is_readable bytes = is_single bytes && accepts bytes

@@ -1,0 +1,48 @@
+-- What an accepted file puts into memory: every word of both lists.
+use Rattle.std.specs.Prelude.{ℕ, ◌+◌, ◌-◌, ◌*◌, ◌%◌, ◌==◌, Bool, List, map, filter, fold, nat_lt, slice_index, if◌then◌else◌}
+use Rattle.std.specs.List.{range_with_len}
+use Rattle.s2_base.specs.Map.{is_between, local_words, global_words}
+use Rattle.s2_elf.specs.MemoryImage.{MemoryImage}
+use Rattle.s2_elf.specs.Files.{ProgramHeader, headers_of, entry_of}
+
+-- the segments that are loaded, in order
+abbrev pub segments_of : List ℕ → List ProgramHeader
+segments_of bytes = filter (λ (h : ProgramHeader). h.kind == 1) (headers_of bytes)
+
+-- the physical address of a segment's first byte
+abbrev pub base_of : ProgramHeader → ℕ
+base_of h = h.vaddr % 0x20000000
+
+-- a segment has a byte at a physical address: its file bytes come first, and zeros after them
+abbrev pub covers : ProgramHeader → ℕ → Bool
+covers h pa = is_between (base_of h) pa (base_of h + h.memsz)
+
+abbrev pub segment_byte : List ℕ → ProgramHeader → ℕ → ℕ
+segment_byte bytes h pa = if nat_lt (pa - base_of h) h.filesz then slice_index bytes (h.offset + (pa - base_of h)) else 0
+
+-- the byte at a physical address once a segment is placed over it
+abbrev pub placed_byte : List ℕ → ℕ → ℕ → ProgramHeader → ℕ
+placed_byte bytes pa old h = if covers h pa then segment_byte bytes h pa else old
+
+-- the byte at a physical address: that of the last segment that has one there, and else 0
+abbrev pub image_byte : List ℕ → ℕ → ℕ
+image_byte bytes pa = fold (placed_byte bytes pa) 0 (segments_of bytes)
+
+-- the word of the four bytes from a physical address on, most significant byte first
+abbrev pub image_word : List ℕ → ℕ → ℕ
+image_word bytes pa = ((image_byte bytes pa * 256 + image_byte bytes (pa + 1)) * 256 + image_byte bytes (pa + 2)) * 256 + image_byte bytes (pa + 3)
+
+-- the physical address of a word of the local list, and of one of the global list
+abbrev pub local_address : ℕ → ℕ
+local_address i = if nat_lt i 262144 then 4 * i else 0x1FC00000 + 4 * (i - 262144)
+
+abbrev pub global_address : ℕ → ℕ
+global_address i = 0x04000000 + 4 * i
+
+-- the program in memory
+unfoldable pub image_of : List ℕ → MemoryImage
+image_of bytes = record {
+  entry = entry_of bytes;
+  local = map (λ i. image_word bytes (local_address i)) (range_with_len 0 local_words);
+  global = map (λ i. image_word bytes (global_address i)) (range_with_len 0 global_words);
+}

@@ -1,0 +1,6 @@
+pub use Rattle.s2_base.specs.Map
+pub mod MemoryImage
+pub mod Files
+pub mod Images
+pub mod Answers
+pub mod Placing

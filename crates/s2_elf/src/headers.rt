@@ -1,0 +1,94 @@
+//! The numbers of a file, and a program header.
+
+ghost use Rattle.std.specs.Prelude.{◌≡◌, ◌+◌, ◌≤◌, length};
+ghost use Rattle.s2_elf.specs.Files.{half_at, number_at, entry_of, table_of, count_of, header_at};
+ghost use Rattle.s2_elf.specs.Images.{base_of};
+ghost use Rattle.s2_elf.specs.Placing.{header_of};
+
+use byteorder::{BigEndian, ByteOrder};
+
+/// The size of a file's header in bytes (ELF-32 specification, ELF header).
+pub const FILE_HEADER_SIZE: usize = 52;
+
+/// The size of a program header in bytes (ELF-32 specification, program header).
+pub const PROGRAM_HEADER_SIZE: u16 = 32;
+
+/// The fields of a program header that the loader looks at.
+///
+/// Source: the ELF-32 specification, program header.
+#[derive(Clone, Copy)]
+pub struct SegmentHeader {
+    /// `p_type`: 1 for a segment that is loaded.
+    pub kind: u32,
+    /// `p_offset`: where the segment's file bytes begin in the file.
+    pub offset: u32,
+    /// `p_vaddr`: the virtual address of the segment's first byte.
+    pub vaddr: u32,
+    /// `p_filesz`: how many bytes of the segment the file has.
+    pub filesz: u32,
+    /// `p_memsz`: how many bytes the segment has in memory.
+    pub memsz: u32,
+}
+
+impl SegmentHeader {
+    /// The physical address of the segment's first byte, which is the low 29 bits of the virtual one.
+    pub fn base(self) -> u32
+        ensures { result ≡ base_of (header_of self) }
+    {
+        self.vaddr % 0x2000_0000
+    }
+}
+
+/// The half word at an offset, most significant byte first.
+pub fn half_at(bytes: &[u8], at: usize) -> u16
+    requires { at + 2 ≤ length bytes.now }
+    ensures { result ≡ half_at bytes.now at }
+{
+    BigEndian::read_u16(&bytes[at..at + 2])
+}
+
+/// The word at an offset, most significant byte first.
+pub fn number_at(bytes: &[u8], at: usize) -> u32
+    requires { at + 4 ≤ length bytes.now }
+    ensures { result ≡ number_at bytes.now at }
+{
+    BigEndian::read_u32(&bytes[at..at + 4])
+}
+
+/// `e_entry`: the virtual address of the first instruction.
+pub fn entry_of(bytes: &[u8]) -> u32
+    requires { 52 ≤ length bytes.now }
+    ensures { result ≡ entry_of bytes.now }
+{
+    number_at(bytes, 24)
+}
+
+/// `e_phoff`: where the table of program headers begins in the file.
+pub fn table_of(bytes: &[u8]) -> u32
+    requires { 52 ≤ length bytes.now }
+    ensures { result ≡ table_of bytes.now }
+{
+    number_at(bytes, 28)
+}
+
+/// `e_phnum`: how many program headers there are.
+pub fn count_of(bytes: &[u8]) -> u16
+    requires { 52 ≤ length bytes.now }
+    ensures { result ≡ count_of bytes.now }
+{
+    half_at(bytes, 44)
+}
+
+/// The program header at an offset.
+pub fn header_at(bytes: &[u8], at: usize) -> SegmentHeader
+    requires { at + 32 ≤ length bytes.now }
+    ensures { header_of result ≡ header_at bytes.now at }
+{
+    SegmentHeader {
+        kind: number_at(bytes, at),
+        offset: number_at(bytes, at + 4),
+        vaddr: number_at(bytes, at + 8),
+        filesz: number_at(bytes, at + 16),
+        memsz: number_at(bytes, at + 20),
+    }
+}

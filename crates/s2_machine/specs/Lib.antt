@@ -1,0 +1,11 @@
+pub use Rattle.s2_base.specs.Words
+pub use Rattle.s2_base.specs.Map
+pub mod Registers
+pub mod Processor
+pub mod Device
+pub mod Machine
+pub mod Decoding
+pub mod Stepping
+pub mod Moving
+pub mod Cycle
+pub mod Going

@@ -1,0 +1,14 @@
+//! What a cycle does.
+
+/// What a cycle does, once its instruction is decoded and its operands are read.
+#[derive(Debug, Clone, Copy, PartialEq, Eq)]
+pub enum Step {
+    /// Register `reg` takes a word, and the next instruction follows. Register 0 stays 0.
+    Set { reg: u8, value: u32 },
+    /// A branch or a jump: one that is taken has a target, a virtual address.
+    Jump { target: Option<u32> },
+    /// The bytes of `word` under `mask` are stored at the physical address `pa`.
+    Store { pa: u32, word: u32, mask: u8 },
+    /// The case or the row is not built.
+    NotBuilt,
+}

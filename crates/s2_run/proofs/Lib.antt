@@ -1,0 +1,5 @@
+pub mod Pieces
+pub mod Lines
+pub mod Progress
+pub mod Transcripts
+pub mod Executions

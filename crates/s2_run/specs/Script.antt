@@ -1,0 +1,30 @@
+-- The one line of a script that is run today, and the words of the command.
+use Rattle.std.specs.Prelude.{ℕ, ◌≡◌, ◌+◌, ◌≤◌, ◌^◌, ◌==◌, List, [], ◌∷◌, ◌++◌, codes, decimal, length, min, take, Some, None, if◌then◌else◌}
+use Rattle.std.specs.declared.option.Option.{Option}
+use Rattle.std.specs.Str.{bytes_eq}
+
+-- the bytes before the first line feed, or all of them
+abbrev pub line_of : List ℕ → List ℕ
+line_of [] = []
+line_of (b ∷ bs) = if b == 10 then [] else b ∷ line_of bs
+
+-- the bytes of an input before its first line feed, its end or its byte number 129
+abbrev pub first_line : List ℕ → List ℕ
+first_line input = take 128 (line_of input)
+
+-- how many bytes are taken of an input: to its first line feed, its end or byte number 129
+abbrev pub first_taken : List ℕ → ℕ
+first_taken input = min 129 (length (line_of input) + 1)
+
+-- the line `t 7 N`: so many ticks of all three processors, from 1 to 2 ^ 40
+pub record IsTicks (line : List ℕ) (n : ℕ) : Type 0 where
+  pub text : line ≡ codes "t 7 " ++ decimal n
+  pub positive : 1 ≤ n
+  pub bounded : n ≤ 2 ^ 40
+
+-- the file's name, where the words are `run NAME`
+abbrev pub run_name : List (List ℕ) → Option (List ℕ)
+run_name [] = None
+run_name (command ∷ []) = None
+run_name (command ∷ name ∷ []) = if bytes_eq command (codes "run") then Some name else None
+run_name (command ∷ name ∷ more ∷ words) = None

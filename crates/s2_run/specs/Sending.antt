@@ -1,0 +1,28 @@
+-- How far a piece went, and why it went no further.
+use Rattle.std.specs.Prelude.{ℕ, ◌≤◌, ◌⊎◌, List, [], ◌∷◌, take, Some, None, Ok, Err, OnErr}
+use Rattle.std.specs.declared.option.Option.{Option}
+use Rattle.std.specs.declared.result.Result.{Result}
+use Rattle.s2_io.specs.Counts.{Rose}
+use Rattle.s2_run.specs.declared.sending.Cut.{Cut}
+
+-- the part of a piece that went: all of it, or the front before the cut
+abbrev pub sent : {T : Type 0} → Result T Cut → List ℕ → List ℕ
+sent (Ok x) piece = piece
+sent (Err cut) piece = take cut.taken piece
+
+-- no count of a sink has fallen, and a piece is cut only where one of them rose
+pub record SinkCause {T E : Type 0} (result : Result T E) (faults faults' empty_takes empty_takes' : ℕ) : Type 0 where
+  pub faults_stay : faults ≤ faults'
+  pub empty_takes_stay : empty_takes ≤ empty_takes'
+  pub cut : OnErr result (Rose faults faults' ⊎ Rose empty_takes empty_takes')
+
+-- the next byte of what is left
+abbrev pub next_of : List ℕ → Option ℕ
+next_of [] = None
+next_of (b ∷ bs) = Some b
+
+-- how many bytes a call took that gives at most one
+abbrev pub byte_count : {E : Type 0} → Result (Option ℕ) E → ℕ
+byte_count (Ok None) = 0
+byte_count (Ok (Some b)) = 1
+byte_count (Err e) = 0

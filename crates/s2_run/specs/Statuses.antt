@@ -1,0 +1,12 @@
+-- The numbers of the statuses.
+use Rattle.std.specs.Prelude.{ℕ}
+use Rattle.s2_run.specs.declared.status.Status.{Status}
+use Rattle.s2_run.specs.declared.status.Status.TheVariants.{Done, ReadFault, WriteFault, TooBig, Memory, NotBuilt}
+
+abbrev pub number_of : Status → ℕ
+number_of Done = 0
+number_of ReadFault = 6
+number_of WriteFault = 7
+number_of (TooBig limit) = 8
+number_of Memory = 10
+number_of (NotBuilt line) = 11

@@ -1,0 +1,71 @@
+//! The line of a script.
+
+ghost use Rattle.std.specs.Prelude.{◌≡◌, ◌<◌, ◌≤◌, ◌^◌, ◌↔◌, ℕ, List, IfOk, IfSome, OnOk, OnErr, IfNone, IsTrue, Some, decimal, drop};
+ghost use Rattle.s2_io.specs.Counts.{Rose};
+ghost use Rattle.s2_run.specs.Script.{first_line, first_taken, IsTicks};
+ghost use Rattle.s2_run.specs.Endings.{TakesLine};
+
+use crate::sending::next_byte;
+use arrayvec::ArrayVec;
+use itoa::Buffer;
+use s2_io::{Failed, Source};
+
+/// The bytes of an input before its first line feed, its end or its byte number 129, read one at a
+/// time.
+pub fn read_line<S: Source>(input: &mut S) -> Result<ArrayVec<u8, 128>, Failed>
+    ensures line { (s : List ℕ) → S.left input.old ≡ Some s → IfOk result (λ l. l.items ≡ first_line s) }
+    ensures taken { (s : List ℕ) → S.left input.old ≡ Some s → OnOk result (S.left input.new ≡ Some (drop (first_taken s) s)) }
+    ensures part { (s : List ℕ) → S.left input.old ≡ Some s → OnErr result (TakesLine s (S.left input.new)) }
+    ensures faults_stay { S.faults input.old ≤ S.faults input.new }
+    ensures failed { OnErr result (Rose (S.faults input.old) (S.faults input.new)) }
+{
+    let mut line: ArrayVec<u8, 128> = ArrayVec::new();
+    for _ in 0..128usize {
+        match next_byte(input) {
+            Err(Failed) => return Err(Failed),
+            Ok(None) => return Ok(line),
+            Ok(Some(byte)) => {
+                if byte == b'\n' {
+                    return Ok(line);
+                }
+                line.push(byte);
+            }
+        }
+    }
+    match next_byte(input) {
+        Err(Failed) => Err(Failed),
+        Ok(_) => Ok(line),
+    }
+}
+
+/// The number of a text of decimal digits. It may take other texts for numbers too.
+fn read_number(digits: &[u8]) -> Option<u64>
+    ensures { (n : ℕ) → n < 2 ^ 64 → digits.now ≡ decimal n → result ≡ Some n }
+{
+    match str::from_utf8(digits) {
+        Ok(text) => text.parse::<u64>().ok(),
+        Err(_) => None,
+    }
+}
+
+/// Whether a number has these digits: no sign, no space and no leading zero.
+fn has_digits(n: u64, digits: &[u8]) -> bool
+    ensures { IsTrue result ↔ (digits.now ≡ decimal n) }
+{
+    let mut buffer = Buffer::new();
+    buffer.format(n).as_bytes() == digits
+}
+
+/// The ticks of the line `t 7 N`, or none where the line is another.
+pub fn read_ticks(line: &[u8]) -> Option<u64>
+    ensures ticks { IfSome result (IsTicks line.now) }
+    ensures none { IfNone result ((n : ℕ) → ¬ IsTicks line.now n) }
+{
+    let digits = line.strip_prefix(b"t 7 ")?;
+    let n = read_number(digits)?;
+    if has_digits(n, digits) && n >= 1 && n <= 1_099_511_627_776 {
+        Some(n)
+    } else {
+        None
+    }
+}

@@ -1,0 +1,41 @@
+//! The answer of the top call.
+
+ghost use Rattle.std.specs.Prelude.{◌≡◌};
+ghost use Rattle.s2_run.specs.Statuses.{number_of};
+
+/// How a command ended.
+///
+/// The numbers are the exit statuses of the program (`docs/FORMATS.md`).
+#[derive(Debug, Clone, Copy, PartialEq, Eq)]
+pub enum Status {
+    /// The program halted.
+    Done,
+    /// The file or the input could not be read. It comes only where the desk's count of faults for
+    /// the file's name or the input's count of faults rose.
+    ReadFault,
+    /// The console or the report could not be written. It comes only where a count of faults or of
+    /// empty takes of one of them rose.
+    WriteFault,
+    /// The file has more bytes than the limit, which is 4,194,304.
+    TooBig { limit: usize },
+    /// Memory was refused, before the input was read and before anything was written.
+    Memory,
+    /// The words or the file (line 0), or a line of the input, are not built.
+    NotBuilt { line: u64 },
+}
+
+impl Status {
+    /// The exit status of the program.
+    pub fn number(&self) -> u8
+        ensures { result ≡ number_of self.now }
+    {
+        match self {
+            Status::Done => 0,
+            Status::ReadFault => 6,
+            Status::WriteFault => 7,
+            Status::TooBig { limit: _ } => 8,
+            Status::Memory => 10,
+            Status::NotBuilt { line: _ } => 11,
+        }
+    }
+}
