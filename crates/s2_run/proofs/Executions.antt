@@ -1,7 +1,8 @@
 -- What the definitions of a run that halts, and of one that stops, say of the run that the code makes.
-use Rattle.std.proofs.Common.{◌≡◌, ℕ, zero, suc, ◌+◌, ◌-◌, ◌%◌, ◌<◌, ◌≤◌, true, false, List, [], ◌++◌, length, append-nil, refl, sym, ap, arith, ◌∙◌, subst, inl, inr}
+use Rattle.std.proofs.Common.{◌≡◌, ℕ, zero, suc, ◌+◌, ◌-◌, ◌%◌, ◌<◌, ◌≤◌, Bool, true, false, List, [], ◌++◌, length, append-nil, refl, sym, ap, arith, ◌∙◌, subst, inl, inr}
 use Rattle.std.specs.Prelude.{Some, None, ◌^◌, ◌⊎◌, is_some}
 use Rattle.std.specs.declared.option.Option.{Option}
+use Rattle.std.proofs.lemmas.Bool.{cases_lt}
 use Rattle.s2_base.specs.Map.{place_at}
 use Rattle.s2_base.specs.declared.places.Place.{Place}
 use Rattle.s2_base.specs.declared.places.Place.TheVariants.{Local, Boot, Global, Device, Nowhere}
@@ -14,8 +15,8 @@ use Rattle.s2_machine.specs.declared.step.Step.TheVariants.{Set, Jump, Store, No
 use Rattle.s2_elf.specs.MemoryImage.{MemoryImage}
 use Rattle.s2_run.specs.Transcript.{Outlet, Console, Report, marked}
 use Rattle.s2_run.specs.ReportText.{end_lines}
-use Rattle.s2_run.specs.Execution.{alone, Halts, Stops, halt_transcript, stop_transcript, goes_on, run_on, run_from, status_at, transcript_at, end_lines_at, cycle_limit}
-use Rattle.s2_run.specs.Endings.{Ends, started_image}
+use Rattle.s2_run.specs.Execution.{alone, Halts, Stops, halt_transcript, stop_transcript, goes_on, run_on, run_from, status_at, transcript_at, end_lines_at, cycle_limit, started_image}
+use Rattle.s2_run.specs.Endings.{Ends}
 use Rattle.s2_run.specs.declared.status.Status.{Status}
 use Rattle.s2_run.specs.declared.status.Status.TheVariants.{Done, NotBuilt}
 use Rattle.s2_run.proofs.Progress.{on_by, stay, goes, stuck, over, cycled_is}
@@ -137,3 +138,74 @@ ends_with {image} {limit} {status} {transcript} answer console console' report r
 -- the limit is small
 pub limit_small : (n : ℕ) → cycle_limit n < 2 ^ 64
 limit_small n = omega arith
+
+-- a program halts or stops within a limit
+pub record HaltsSomewhere (image : MemoryImage) (limit : ℕ) : Type 0 where
+  pub cycles : ℕ
+  pub value : ℕ
+  pub halts : Halts image limit cycles value
+
+pub record StopsSomewhere (image : MemoryImage) (limit : ℕ) : Type 0 where
+  pub cycles : ℕ
+  pub stops : Stops image limit cycles
+
+-- k cycles were built, and none of them halted
+record Going (image : MemoryImage) (limit k : ℕ) : Type 0 where
+  pub within : k ≤ limit
+  pub built : (j : ℕ) → j < k → is_built (alone image j).machine ≡ true
+  pub running : (j : ℕ) → j ≤ k → (alone image j).machine.halt ≡ None
+
+going_none : (image : MemoryImage) (limit : ℕ) → Going image limit 0
+going_none image limit = record {
+  within = omega arith;
+  built = λ j h. absurd {A = is_built (alone image j).machine ≡ true} (omega arith);
+  running = λ j h. let e : 0 ≡ j = omega arith in subst (λ (i : ℕ). (alone image i).machine.halt ≡ None) e refl;
+}
+
+stops_here : (image : MemoryImage) (limit k : ℕ) → Going image limit k → (is_built (alone image k).machine ≡ false) ⊎ (k ≡ limit) → StopsSomewhere image limit
+stops_here image limit k r stopped = record { cycles = k; stops = record { within = r.within; built = r.built; running = r.running; stopped = stopped } }
+
+built_by : (image : MemoryImage) (limit k j : ℕ) → Going image limit k → is_built (alone image k).machine ≡ true → j ≤ k → (j < k) ⊎ (k ≤ j) → is_built (alone image j).machine ≡ true
+built_by image limit k j r b h (inl less) = r.built j less
+built_by image limit k j r b h (inr more) = let e : k ≡ j = omega arith in subst (λ (i : ℕ). is_built (alone image i).machine ≡ true) e b
+
+built_more : (image : MemoryImage) (limit k : ℕ) → Going image limit k → is_built (alone image k).machine ≡ true → (j : ℕ) → j < suc k → is_built (alone image j).machine ≡ true
+built_more image limit k r b j h = built_by image limit k j r b (omega arith) (cases_lt j k)
+
+running_by : (image : MemoryImage) (limit k j : ℕ) → Going image limit k → (alone image (suc k)).machine.halt ≡ None → j ≤ suc k → (j < suc k) ⊎ (suc k ≤ j) → (alone image j).machine.halt ≡ None
+running_by image limit k j r e h (inl less) = r.running j (omega arith)
+running_by image limit k j r e h (inr more) = let same : suc k ≡ j = omega arith in subst (λ (i : ℕ). (alone image i).machine.halt ≡ None) same e
+
+by_halt : (image : MemoryImage) (limit k : ℕ) (o : Option ℕ) → (alone image (suc k)).machine.halt ≡ o → suc k ≤ limit → Going image limit k → is_built (alone image k).machine ≡ true → (Going image limit (suc k) → HaltsSomewhere image limit ⊎ StopsSomewhere image limit) → HaltsSomewhere image limit ⊎ StopsSomewhere image limit
+by_halt image limit k (Some value) e within r b more =
+    inl (record { cycles = suc k; value = value; halts = record { within = within; built = built_more image limit k r b; running = λ j h. r.running j (omega arith); halted = e } })
+by_halt image limit k None e within r b more =
+    more (record { within = within; built = built_more image limit k r b; running = λ j h. running_by image limit k j r e h (cases_lt j (suc k)) })
+
+by_built : (image : MemoryImage) (limit k : ℕ) (b : Bool) → is_built (alone image k).machine ≡ b → suc k ≤ limit → Going image limit k → (Going image limit (suc k) → HaltsSomewhere image limit ⊎ StopsSomewhere image limit) → HaltsSomewhere image limit ⊎ StopsSomewhere image limit
+by_built image limit k true e within r more = by_halt image limit k (alone image (suc k)).machine.halt refl within r e more
+by_built image limit k false e within r more = inr (stops_here image limit k r (inl e))
+
+decides_by : (image : MemoryImage) (limit n k : ℕ) → n + k ≡ limit → Going image limit k → HaltsSomewhere image limit ⊎ StopsSomewhere image limit
+decides_by image limit zero k e r = let same : k ≡ limit = omega arith in inr (stops_here image limit k r (inr same))
+decides_by image limit (suc n) k e r =
+    by_built image limit k (is_built (alone image k).machine) refl (omega arith) r (decides_by image limit n (suc k) (omega arith))
+
+decides : (image : MemoryImage) (limit : ℕ) → HaltsSomewhere image limit ⊎ StopsSomewhere image limit
+decides image limit = decides_by image limit limit 0 (omega arith) (going_none image limit)
+
+halts_by : (image : MemoryImage) (limit : ℕ) → status_at (run_from (started_image image) limit).machine.halt ≡ Done → HaltsSomewhere image limit ⊎ StopsSomewhere image limit → HaltsSomewhere image limit
+halts_by image limit h (inl w) = w
+halts_by image limit h (inr w) = absurd (let e = (stops_end image limit w.cycles w.stops).status_is in cc)
+
+-- where a run ends as one that halts, the program halts
+pub halts_only : (image : MemoryImage) (limit : ℕ) → status_at (run_from (started_image image) limit).machine.halt ≡ Done → HaltsSomewhere image limit
+halts_only image limit h = halts_by image limit h (decides image limit)
+
+stops_by : (image : MemoryImage) (limit : ℕ) → limit < 2 ^ 64 → status_at (run_from (started_image image) limit).machine.halt ≡ NotBuilt 1 → HaltsSomewhere image limit ⊎ StopsSomewhere image limit → StopsSomewhere image limit
+stops_by image limit small h (inr w) = w
+stops_by image limit small h (inl w) = absurd (let e = (halts_end image limit w.cycles w.value small w.halts).status_is in cc)
+
+-- where a run ends as one that stops, the program stops
+pub stops_only : (image : MemoryImage) (limit : ℕ) → limit < 2 ^ 64 → status_at (run_from (started_image image) limit).machine.halt ≡ NotBuilt 1 → StopsSomewhere image limit
+stops_only image limit small h = stops_by image limit small h (decides image limit)

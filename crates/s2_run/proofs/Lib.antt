@@ -3,3 +3,4 @@ pub mod Lines
 pub mod Progress
 pub mod Transcripts
 pub mod Executions
+pub mod Reasons

@@ -1,7 +1,7 @@
 -- The execution of a program by one processor, and what it writes.
 use Rattle.std.specs.Prelude.{ℕ, zero, suc, ◌≡◌, ◌<◌, ◌≤◌, ◌&&◌, ◌⊎◌, Bool, true, false, List, [], ◌++◌, length, min, is_none, Some, None, if◌then◌else◌}
 use Rattle.std.specs.declared.option.Option.{Option}
-use Rattle.s2_machine.specs.Machine.{Machine}
+use Rattle.s2_machine.specs.Machine.{Machine, started}
 use Rattle.s2_machine.specs.Cycle.{is_built}
 use Rattle.s2_machine.specs.Going.{Ran, cycled, solo}
 use Rattle.s2_elf.specs.MemoryImage.{MemoryImage}
@@ -9,6 +9,10 @@ use Rattle.s2_run.specs.Transcript.{Outlet, Console, Report, marked}
 use Rattle.s2_run.specs.ReportText.{end_lines}
 use Rattle.s2_run.specs.declared.status.Status.{Status}
 use Rattle.s2_run.specs.declared.status.Status.TheVariants.{Done, NotBuilt}
+
+-- the machine of a program at its start
+abbrev pub started_image : MemoryImage → Machine
+started_image image = started image.entry image.local image.global
 
 -- a program alone, without deliveries, after so many cycles: its machine and its console bytes
 abbrev pub alone : MemoryImage → ℕ → Ran

@@ -24,3 +24,4 @@ pub mod ReportText
 pub mod Script
 pub mod Execution
 pub mod Endings
+pub mod Reasons

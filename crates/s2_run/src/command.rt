@@ -9,10 +9,11 @@ ghost use Rattle.s2_run.specs.ReportText.{end_lines};
 ghost use Rattle.s2_run.specs.Script.{first_taken};
 ghost use Rattle.s2_run.specs.Transcript.{Report, marked, Untouched};
 ghost use Rattle.s2_run.specs.ReportText.{too_big_line};
-ghost use Rattle.s2_run.specs.Execution.{run_from, cycle_limit, status_at, transcript_at};
+ghost use Rattle.s2_run.specs.Execution.{run_from, cycle_limit, status_at, transcript_at, started_image};
 ghost use Rattle.s2_elf.specs.Files.{is_readable};
 ghost use Rattle.s2_elf.specs.Images.{image_of};
-ghost use Rattle.s2_run.specs.Endings.{file_limit, Ends, IsAccepted, IsRefused, IsRunAnswer, IsScriptAnswer, IsFileAnswer, IsSizeAnswer, NamesLine, ReadCause, SizeCause, WriteCause, RunsScript, TakesLine, TakesWhole, TakesNothing, WritesNothing, started_image};
+ghost use Rattle.s2_run.specs.Endings.{Ends, IsRunAnswer, IsScriptAnswer, IsFileAnswer, IsSizeAnswer, NamesLine, RunsScript, TakesLine, TakesWhole, TakesNothing, WritesNothing};
+ghost use Rattle.s2_run.specs.Reasons.{file_limit, IsAccepted, IsRefused, ScriptOnly, FileOnly, RunOnly, ReadCause, SizeCause, WriteCause};
 
 use crate::flat::Flat;
 use crate::report::{counted, halted};
@@ -32,8 +33,10 @@ const CYCLES: u64 = 254;
 
 /// Writes the end lines of a run that halted after so many cycles, a tick each.
 fn put_end_lines<R: Sink>(report: &mut R, runs: u64, bytes: u64, value: u32) -> Result<(), Cut>
-    ensures bytes { R.taken report.new ≡ appended (R.taken report.old) (sent result (end_lines runs runs bytes value)) }
-    ensures cause { SinkCause result (R.faults report.old) (R.faults report.new) (R.empty_takes report.old) (R.empty_takes report.new) }
+    ensures bytes { R.taken report.new
+        ≡ appended (R.taken report.old) (sent result (end_lines runs runs bytes value)) }
+    ensures cause { SinkCause result (R.faults report.old) (R.faults report.new)
+        (R.empty_takes report.old) (R.empty_takes report.new) }
 {
     let run_line = counted(b"runs", runs);
     let tick_line = counted(b"ticks", runs);
@@ -56,10 +59,12 @@ fn run_ticks<C: Sink, R: Sink>(
     report: &mut R,
 ) -> Status
     requires { machine.old.halt ≡ None }
-    ensures ends { Ends (status_at (run_from machine.old (cycle_limit ticks)).machine.halt) (transcript_at (run_from machine.old (cycle_limit ticks)))
-        result (C.taken console.old) (C.taken console.new) (R.taken report.old) (R.taken report.new) }
+    ensures ends { Ends (status_at (run_from machine.old (cycle_limit ticks)).machine.halt)
+        (transcript_at (run_from machine.old (cycle_limit ticks))) result
+        (C.taken console.old) (C.taken console.new) (R.taken report.old) (R.taken report.new) }
     ensures answer { IsRunAnswer result }
-    ensures cause { WriteCause result (C.faults console.old) (C.faults console.new) (C.empty_takes console.old) (C.empty_takes console.new)
+    ensures cause { WriteCause result
+        (C.faults console.old) (C.faults console.new) (C.empty_takes console.old) (C.empty_takes console.new)
         (R.faults report.old) (R.faults report.new) (R.empty_takes report.old) (R.empty_takes report.new) }
 {
     let written = match run_cycles(machine, ticks.min(CYCLES), console) {
@@ -84,14 +89,19 @@ fn run_script<S: Source, C: Sink, R: Sink>(
 ) -> Status
     requires { machine.old.halt ≡ None }
     ensures runs { (s : List ℕ) → S.left input.old ≡ Some s
-        → RunsScript machine.old s result (C.taken console.old) (C.taken console.new) (R.taken report.old) (R.taken report.new) }
+        → RunsScript machine.old s result
+        (C.taken console.old) (C.taken console.new) (R.taken report.old) (R.taken report.new) }
+    ensures only { (s : List ℕ) → S.left input.old ≡ Some s → ScriptOnly machine.old s result }
     ensures answer { IsScriptAnswer result }
     ensures read { result ≡ Status.ReadFault → Rose (S.faults input.old) (S.faults input.new) }
-    ensures write { WriteCause result (C.faults console.old) (C.faults console.new) (C.empty_takes console.old) (C.empty_takes console.new)
+    ensures write { WriteCause result
+        (C.faults console.old) (C.faults console.new) (C.empty_takes console.old) (C.empty_takes console.new)
         (R.faults report.old) (R.faults report.new) (R.empty_takes report.old) (R.empty_takes report.new) }
-    ensures unwritten { WritesNothing result → Untouched (C.taken console.old) (C.taken console.new) (R.taken report.old) (R.taken report.new) }
+    ensures unwritten { WritesNothing result
+        → Untouched (C.taken console.old) (C.taken console.new) (R.taken report.old) (R.taken report.new) }
     ensures line { (s : List ℕ) → S.left input.old ≡ Some s → TakesLine s (S.left input.new) }
-    ensures whole { (s : List ℕ) → S.left input.old ≡ Some s → TakesWhole result → S.left input.new ≡ Some (drop (first_taken s) s) }
+    ensures whole { (s : List ℕ) → S.left input.old ≡ Some s → TakesWhole result
+        → S.left input.new ≡ Some (drop (first_taken s) s) }
 {
     let line = match read_line(input) {
         Ok(line) => line,
@@ -112,17 +122,23 @@ fn run_file<S: Source, C: Sink, R: Sink>(
     report: &mut R,
 ) -> Status
     ensures refused { is_readable bytes.now ≡ false
-        → Ends (Status.NotBuilt 0) [] result (C.taken console.old) (C.taken console.new) (R.taken report.old) (R.taken report.new) }
+        → Ends (Status.NotBuilt 0) [] result
+        (C.taken console.old) (C.taken console.new) (R.taken report.old) (R.taken report.new) }
     ensures runs { (s : List ℕ) → S.left input.old ≡ Some s → is_readable bytes.now ≡ true
-        → RunsScript (started_image (image_of bytes.now)) s result (C.taken console.old) (C.taken console.new) (R.taken report.old) (R.taken report.new) }
+        → RunsScript (started_image (image_of bytes.now)) s result
+        (C.taken console.old) (C.taken console.new) (R.taken report.old) (R.taken report.new) }
+    ensures only { (s : List ℕ) → S.left input.old ≡ Some s → FileOnly bytes.now s result }
     ensures answer { IsFileAnswer result }
     ensures read { result ≡ Status.ReadFault → Rose (S.faults input.old) (S.faults input.new) }
-    ensures write { WriteCause result (C.faults console.old) (C.faults console.new) (C.empty_takes console.old) (C.empty_takes console.new)
+    ensures write { WriteCause result
+        (C.faults console.old) (C.faults console.new) (C.empty_takes console.old) (C.empty_takes console.new)
         (R.faults report.old) (R.faults report.new) (R.empty_takes report.old) (R.empty_takes report.new) }
-    ensures unwritten { WritesNothing result → Untouched (C.taken console.old) (C.taken console.new) (R.taken report.old) (R.taken report.new) }
+    ensures unwritten { WritesNothing result
+        → Untouched (C.taken console.old) (C.taken console.new) (R.taken report.old) (R.taken report.new) }
     ensures untaken { TakesNothing result → S.left input.new ≡ S.left input.old }
     ensures line { (s : List ℕ) → S.left input.old ≡ Some s → TakesLine s (S.left input.new) }
-    ensures whole { (s : List ℕ) → S.left input.old ≡ Some s → TakesWhole result → S.left input.new ≡ Some (drop (first_taken s) s) }
+    ensures whole { (s : List ℕ) → S.left input.old ≡ Some s → TakesWhole result
+        → S.left input.new ≡ Some (drop (first_taken s) s) }
 {
     match read_elf(alloc, bytes) {
         Ok(image) => {
@@ -138,9 +154,11 @@ fn run_file<S: Source, C: Sink, R: Sink>(
 /// Refuses a file that has more bytes than the limit.
 fn refuse_size<R: Sink>(limit: usize, report: &mut R) -> Status
     ensures ends { (console : Option (List ℕ))
-        → Ends (Status.TooBig limit) (marked Report too_big_line) result console console (R.taken report.old) (R.taken report.new) }
+        → Ends (Status.TooBig limit) (marked Report too_big_line) result
+        console console (R.taken report.old) (R.taken report.new) }
     ensures answer { IsSizeAnswer limit result }
-    ensures write { result ≡ Status.WriteFault → Rose (R.faults report.old) (R.faults report.new) ⊎ Rose (R.empty_takes report.old) (R.empty_takes report.new) }
+    ensures write { result ≡ Status.WriteFault → Rose (R.faults report.old) (R.faults report.new)
+        ⊎ Rose (R.empty_takes report.old) (R.empty_takes report.new) }
 {
     match put(report, b"toobig\n") {
         Ok(()) => Status::TooBig { limit },
@@ -157,24 +175,34 @@ pub fn run<D: Desk, S: Source, C: Sink, R: Sink>(
     console: &mut C,
     report: &mut R,
 ) -> Status
-    ensures runs { (file s : List ℕ) → D.held desk.old name.now ≡ Some file → S.left input.old ≡ Some s → IsAccepted file
-        → RunsScript (started_image (image_of file)) s result (C.taken console.old) (C.taken console.new) (R.taken report.old) (R.taken report.new) }
+    ensures runs { (file s : List ℕ)
+        → D.held desk.old name.now ≡ Some file → S.left input.old ≡ Some s → IsAccepted file
+        → RunsScript (started_image (image_of file)) s result
+        (C.taken console.old) (C.taken console.new) (R.taken report.old) (R.taken report.new) }
     ensures refused { (file : List ℕ) → D.held desk.old name.now ≡ Some file → IsRefused file
-        → Ends (Status.NotBuilt 0) [] result (C.taken console.old) (C.taken console.new) (R.taken report.old) (R.taken report.new) }
+        → Ends (Status.NotBuilt 0) [] result
+        (C.taken console.old) (C.taken console.new) (R.taken report.old) (R.taken report.new) }
     ensures too_big { (file : List ℕ) → D.held desk.old name.now ≡ Some file → file_limit < length file
-        → Ends (Status.TooBig file_limit) (marked Report too_big_line) result (C.taken console.old) (C.taken console.new) (R.taken report.old) (R.taken report.new) }
+        → Ends (Status.TooBig file_limit) (marked Report too_big_line) result
+        (C.taken console.old) (C.taken console.new) (R.taken report.old) (R.taken report.new) }
+    ensures only { (file s : List ℕ) → D.held desk.old name.now ≡ Some file → S.left input.old ≡ Some s
+        → RunOnly file s result }
 
     ensures named { NamesLine result }
     ensures read { result ≡ Status.ReadFault
-        → ReadCause (Some name.now) (D.faults desk.old) (D.faults desk.new) (S.left input.old) (S.left input.new) (S.faults input.old) (S.faults input.new) }
+        → ReadCause (Some name.now) (D.faults desk.old) (D.faults desk.new)
+        (S.left input.old) (S.left input.new) (S.faults input.old) (S.faults input.new) }
     ensures size { SizeCause result (D.large desk.old) (D.large desk.new) }
-    ensures write { WriteCause result (C.faults console.old) (C.faults console.new) (C.empty_takes console.old) (C.empty_takes console.new)
+    ensures write { WriteCause result
+        (C.faults console.old) (C.faults console.new) (C.empty_takes console.old) (C.empty_takes console.new)
         (R.faults report.old) (R.faults report.new) (R.empty_takes report.old) (R.empty_takes report.new) }
 
-    ensures unwritten { WritesNothing result → Untouched (C.taken console.old) (C.taken console.new) (R.taken report.old) (R.taken report.new) }
+    ensures unwritten { WritesNothing result
+        → Untouched (C.taken console.old) (C.taken console.new) (R.taken report.old) (R.taken report.new) }
     ensures untaken { TakesNothing result → S.left input.new ≡ S.left input.old }
     ensures line { (s : List ℕ) → S.left input.old ≡ Some s → TakesLine s (S.left input.new) }
-    ensures whole { (s : List ℕ) → S.left input.old ≡ Some s → TakesWhole result → S.left input.new ≡ Some (drop (first_taken s) s) }
+    ensures whole { (s : List ℕ) → S.left input.old ≡ Some s → TakesWhole result
+        → S.left input.new ≡ Some (drop (first_taken s) s) }
 {
     match desk.whole(alloc, name, FILE_LIMIT) {
         Ok(bytes) => run_file(alloc, bytes.as_slice(), input, console, report),

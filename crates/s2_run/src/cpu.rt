@@ -33,7 +33,20 @@ impl Model for Cpu {
 
     ghost Value = { Processor };
 
-    ghost view = { λ c. record { r = c.registers; hi = 0; lo = 0; pc = c.pc; npc = c.npc; slot = c.slot; load_reg = 0; load_value = 0; cp0 = blank_registers; tlb = replicate 64 (0, 0); run = c.run; lines = 0 } };
+    ghost view = { λ c. record {
+      r = c.registers;
+      hi = 0;
+      lo = 0;
+      pc = c.pc;
+      npc = c.npc;
+      slot = c.slot;
+      load_reg = 0;
+      load_value = 0;
+      cp0 = blank_registers;
+      tlb = replicate 64 (0, 0);
+      run = c.run;
+      lines = 0;
+    } };
 }
 
 /// The place of a virtual address in kseg0 or kseg1, in kernel mode.

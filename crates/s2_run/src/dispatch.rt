@@ -7,7 +7,8 @@ ghost use Rattle.s2_run.specs.Script.{first_line, first_taken, run_name, IsTicks
 ghost use Rattle.s2_run.specs.Transcript.{Report, marked, Untouched};
 ghost use Rattle.s2_run.specs.ReportText.{too_big_line};
 ghost use Rattle.s2_run.specs.Execution.{cycle_limit, Halts, Stops, halt_transcript, stop_transcript};
-ghost use Rattle.s2_run.specs.Endings.{file_limit, Ends, NamesFile, IsAccepted, IsRefused, NamesLine, ReadCause, SizeCause, WriteCause, TakesLine, TakesWhole, TakesNothing, WritesNothing};
+ghost use Rattle.s2_run.specs.Endings.{Ends, NamesLine, TakesLine, TakesWhole, TakesNothing, WritesNothing};
+ghost use Rattle.s2_run.specs.Reasons.{file_limit, NamesFile, IsAccepted, IsRefused, ComesOnly, ReadCause, SizeCause, WriteCause};
 
 use crate::command::run;
 use crate::status::Status;
@@ -48,38 +49,52 @@ pub fn serve<D: Desk, S: Source, C: Sink, R: Sink>(
     ensures halts { (name file s : List ℕ) (n k value : ℕ)
         → NamesFile (map string_bytes words.now) (D.held desk.old) name file → S.left input.old ≡ Some s
         → IsAccepted file → IsTicks (first_line s) n → Halts (image_of file) (cycle_limit n) k value
-        → Ends Status.Done (halt_transcript (image_of file) k value) result (C.taken console.old) (C.taken console.new) (R.taken report.old) (R.taken report.new) }
+        → Ends Status.Done (halt_transcript (image_of file) k value) result
+        (C.taken console.old) (C.taken console.new) (R.taken report.old) (R.taken report.new) }
 
     // What is not built, and what is too big, is refused as such.
     ensures stops { (name file s : List ℕ) (n k : ℕ)
         → NamesFile (map string_bytes words.now) (D.held desk.old) name file → S.left input.old ≡ Some s
         → IsAccepted file → IsTicks (first_line s) n → Stops (image_of file) (cycle_limit n) k
-        → Ends (Status.NotBuilt 1) (stop_transcript (image_of file) k) result (C.taken console.old) (C.taken console.new) (R.taken report.old) (R.taken report.new) }
+        → Ends (Status.NotBuilt 1) (stop_transcript (image_of file) k) result
+        (C.taken console.old) (C.taken console.new) (R.taken report.old) (R.taken report.new) }
     ensures other_line { (name file s : List ℕ)
         → NamesFile (map string_bytes words.now) (D.held desk.old) name file → S.left input.old ≡ Some s
         → IsAccepted file → ((n : ℕ) → ¬ IsTicks (first_line s) n)
-        → Ends (Status.NotBuilt 1) [] result (C.taken console.old) (C.taken console.new) (R.taken report.old) (R.taken report.new) }
+        → Ends (Status.NotBuilt 1) [] result
+        (C.taken console.old) (C.taken console.new) (R.taken report.old) (R.taken report.new) }
     ensures other_file { (name file : List ℕ)
         → NamesFile (map string_bytes words.now) (D.held desk.old) name file → IsRefused file
-        → Ends (Status.NotBuilt 0) [] result (C.taken console.old) (C.taken console.new) (R.taken report.old) (R.taken report.new) }
+        → Ends (Status.NotBuilt 0) [] result
+        (C.taken console.old) (C.taken console.new) (R.taken report.old) (R.taken report.new) }
     ensures too_big { (name file : List ℕ)
         → NamesFile (map string_bytes words.now) (D.held desk.old) name file → file_limit < length file
-        → Ends (Status.TooBig file_limit) (marked Report too_big_line) result (C.taken console.old) (C.taken console.new) (R.taken report.old) (R.taken report.new) }
+        → Ends (Status.TooBig file_limit) (marked Report too_big_line) result
+        (C.taken console.old) (C.taken console.new) (R.taken report.old) (R.taken report.new) }
+
+    // No other answer than a fault or want of memory comes elsewhere.
+    ensures only { (name file s : List ℕ)
+        → NamesFile (map string_bytes words.now) (D.held desk.old) name file → S.left input.old ≡ Some s
+        → ComesOnly file s result }
     ensures other_words { run_name (map string_bytes words.now) ≡ None → result ≡ Status.NotBuilt 0 }
 
     // A fault has its cause.
     ensures named { NamesLine result }
     ensures read { result ≡ Status.ReadFault
-        → ReadCause (run_name (map string_bytes words.now)) (D.faults desk.old) (D.faults desk.new) (S.left input.old) (S.left input.new) (S.faults input.old) (S.faults input.new) }
-    ensures write { WriteCause result (C.faults console.old) (C.faults console.new) (C.empty_takes console.old) (C.empty_takes console.new)
+        → ReadCause (run_name (map string_bytes words.now)) (D.faults desk.old) (D.faults desk.new)
+        (S.left input.old) (S.left input.new) (S.faults input.old) (S.faults input.new) }
+    ensures write { WriteCause result
+        (C.faults console.old) (C.faults console.new) (C.empty_takes console.old) (C.empty_takes console.new)
         (R.faults report.old) (R.faults report.new) (R.empty_takes report.old) (R.empty_takes report.new) }
     ensures size { SizeCause result (D.large desk.old) (D.large desk.new) }
 
     // What is not touched, and what is taken of the input.
-    ensures unwritten { WritesNothing result → Untouched (C.taken console.old) (C.taken console.new) (R.taken report.old) (R.taken report.new) }
+    ensures unwritten { WritesNothing result
+        → Untouched (C.taken console.old) (C.taken console.new) (R.taken report.old) (R.taken report.new) }
     ensures untaken { TakesNothing result → S.left input.new ≡ S.left input.old }
     ensures line { (s : List ℕ) → S.left input.old ≡ Some s → TakesLine s (S.left input.new) }
-    ensures whole { (s : List ℕ) → S.left input.old ≡ Some s → TakesWhole result → S.left input.new ≡ Some (drop (first_taken s) s) }
+    ensures whole { (s : List ℕ) → S.left input.old ≡ Some s → TakesWhole result
+        → S.left input.new ≡ Some (drop (first_taken s) s) }
 {
     match named(words) {
         Some(name) => run(alloc, name, desk, input, console, report),

@@ -39,7 +39,13 @@ impl Model for Flat {
 
     ghost Value = { Machine };
 
-    ghost view = { λ f. record { cpu = f.cpu; local = f.local.items; global = f.global.items; device = quiet_device; halt = f.halt } };
+    ghost view = { λ f. record {
+      cpu = f.cpu;
+      local = f.local.items;
+      global = f.global.items;
+      device = quiet_device;
+      halt = f.halt;
+    } };
 
     ghost invariant = { λ f. (length f.local.items ≡ local_words) × (length f.global.items ≡ global_words) };
 }

@@ -12,10 +12,12 @@ use s2_io::Sink;
 
 /// Writes the console byte of a cycle, if there is one, and counts it.
 fn emit<C: Sink>(console: &mut C, out: Option<u8>) -> Result<u64, Cut>
-    ensures bytes { C.taken console.new ≡ appended (C.taken console.old) (sent result (bytes_of out)) }
+    ensures bytes { C.taken console.new
+        ≡ appended (C.taken console.old) (sent result (bytes_of out)) }
     ensures count { IfOk result (λ n. n ≡ length (bytes_of out)) }
     ensures cut { IfErr result (λ e. (e.taken ≡ 0) × (0 < length (bytes_of out))) }
-    ensures cause { SinkCause result (C.faults console.old) (C.faults console.new) (C.empty_takes console.old) (C.empty_takes console.new) }
+    ensures cause { SinkCause result (C.faults console.old) (C.faults console.new)
+        (C.empty_takes console.old) (C.empty_takes console.new) }
 {
     match out {
         None => Ok(0),
@@ -31,11 +33,13 @@ fn emit<C: Sink>(console: &mut C, out: Option<u8>) -> Result<u64, Cut>
 pub fn run_cycles<C: Sink>(machine: &mut Flat, limit: u64, console: &mut C) -> Result<u64, Cut>
     requires few { limit ≤ 254 }
     requires running { machine.old.halt ≡ None }
-    ensures bytes { C.taken console.new ≡ appended (C.taken console.old) (sent result (run_from machine.old limit).bytes) }
+    ensures bytes { C.taken console.new
+        ≡ appended (C.taken console.old) (sent result (run_from machine.old limit).bytes) }
     ensures machine { OnOk result (machine.new ≡ (run_from machine.old limit).machine) }
     ensures count { IfOk result (λ n. n ≡ length (run_from machine.old limit).bytes) }
     ensures cut { IfErr result (λ e. e.taken < length (run_from machine.old limit).bytes) }
-    ensures cause { SinkCause result (C.faults console.old) (C.faults console.new) (C.empty_takes console.old) (C.empty_takes console.new) }
+    ensures cause { SinkCause result (C.faults console.old) (C.faults console.new)
+        (C.empty_takes console.old) (C.empty_takes console.new) }
 {
     let mut written = 0u64;
     for _ in 0..limit {

@@ -13,9 +13,12 @@ use s2_io::{Failed, Source};
 /// The bytes of an input before its first line feed, its end or its byte number 129, read one at a
 /// time.
 pub fn read_line<S: Source>(input: &mut S) -> Result<ArrayVec<u8, 128>, Failed>
-    ensures line { (s : List ℕ) → S.left input.old ≡ Some s → IfOk result (λ l. l.items ≡ first_line s) }
-    ensures taken { (s : List ℕ) → S.left input.old ≡ Some s → OnOk result (S.left input.new ≡ Some (drop (first_taken s) s)) }
-    ensures part { (s : List ℕ) → S.left input.old ≡ Some s → OnErr result (TakesLine s (S.left input.new)) }
+    ensures line { (s : List ℕ) → S.left input.old ≡ Some s
+        → IfOk result (λ l. l.items ≡ first_line s) }
+    ensures taken { (s : List ℕ) → S.left input.old ≡ Some s
+        → OnOk result (S.left input.new ≡ Some (drop (first_taken s) s)) }
+    ensures part { (s : List ℕ) → S.left input.old ≡ Some s
+        → OnErr result (TakesLine s (S.left input.new)) }
     ensures faults_stay { S.faults input.old ≤ S.faults input.new }
     ensures failed { OnErr result (Rose (S.faults input.old) (S.faults input.new)) }
 {

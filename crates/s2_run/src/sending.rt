@@ -35,7 +35,8 @@ pub fn next_byte<S: Source>(source: &mut S) -> Result<Option<u8>, Failed>
 pub fn put<K: Sink>(sink: &mut K, piece: &[u8]) -> Result<(), Cut>
     ensures bytes { K.taken sink.new ≡ appended (K.taken sink.old) (sent result piece.now) }
     ensures cut { IfErr result (λ e. e.taken < length piece.now) }
-    ensures cause { SinkCause result (K.faults sink.old) (K.faults sink.new) (K.empty_takes sink.old) (K.empty_takes sink.new) }
+    ensures cause { SinkCause result (K.faults sink.old) (K.faults sink.new)
+        (K.empty_takes sink.old) (K.empty_takes sink.new) }
 {
     let mut done = 0usize;
     while done < piece.len() {
@@ -51,9 +52,11 @@ pub fn put<K: Sink>(sink: &mut K, piece: &[u8]) -> Result<(), Cut>
 #[tactic(auto, using(crate::proofs::Pieces::pieces))]
 pub fn put_both<K: Sink>(sink: &mut K, first: &[u8], second: &[u8]) -> Result<(), Cut>
     requires { length first.now + length second.now < 2 ^ 63 }
-    ensures bytes { K.taken sink.new ≡ appended (K.taken sink.old) (sent result (first.now ++ second.now)) }
+    ensures bytes { K.taken sink.new
+        ≡ appended (K.taken sink.old) (sent result (first.now ++ second.now)) }
     ensures cut { IfErr result (λ e. e.taken < length (first.now ++ second.now)) }
-    ensures cause { SinkCause result (K.faults sink.old) (K.faults sink.new) (K.empty_takes sink.old) (K.empty_takes sink.new) }
+    ensures cause { SinkCause result (K.faults sink.old) (K.faults sink.new)
+        (K.empty_takes sink.old) (K.empty_takes sink.new) }
 {
     match put(sink, first) {
         Ok(()) => {}
@@ -78,8 +81,10 @@ pub fn put_four<K: Sink>(
 ) -> Result<(), Cut>
     requires front { length first.now + length second.now < 2 ^ 62 }
     requires back { length third.now + length fourth.now < 2 ^ 62 }
-    ensures bytes { K.taken sink.new ≡ appended (K.taken sink.old) (sent result ((first.now ++ second.now) ++ (third.now ++ fourth.now))) }
-    ensures cause { SinkCause result (K.faults sink.old) (K.faults sink.new) (K.empty_takes sink.old) (K.empty_takes sink.new) }
+    ensures bytes { K.taken sink.new
+        ≡ appended (K.taken sink.old) (sent result ((first.now ++ second.now) ++ (third.now ++ fourth.now))) }
+    ensures cause { SinkCause result (K.faults sink.old) (K.faults sink.new)
+        (K.empty_takes sink.old) (K.empty_takes sink.new) }
 {
     match put_both(sink, first, second) {
         Ok(()) => {}

@@ -2,9 +2,10 @@ use Rattle.std.proofs.Common.{◌≡◌, ℕ, List, subst, Some, map, string_byt
 use Rattle.std.specs.declared.option.Option.{Option}
 use Rattle.s2_run.specs.Script.{run_name}
 use Rattle.s2_run.specs.Execution.{cycle_limit}
-use Rattle.s2_run.specs.Endings.{NamesFile}
+use Rattle.s2_run.specs.Reasons.{NamesFile}
 use Rattle.s2_elf.specs.Images.{image_of}
 use Rattle.s2_run.proofs.Executions.{halts_end, stops_end, ends_with, limit_small}
+use Rattle.s2_run.proofs.Reasons.{comes_only}
 use Rattle.s2_run.proofs.dispatch.serve.Goals as goal
 
 same_name : (a b : List ℕ) (o : Option (List ℕ)) → Some a ≡ o → o ≡ Some b → b ≡ a
@@ -30,3 +31,7 @@ returns-in-Some-clause-other_line g c = λ name file s names left accepted none.
 pub returns-in-Some-clause-other_file : goal.returns-in-Some-clause-other_file
 returns-in-Some-clause-other_file g c = λ name file names refused.
     c.run.ensures.refused file (held_there g c name file names) refused
+
+pub returns-in-Some-clause-only : goal.returns-in-Some-clause-only
+returns-in-Some-clause-only g c = λ name file s names left.
+    comes_only file s c.run.result (c.run.ensures.only file s (held_there g c name file names) left)
