@@ -15,8 +15,8 @@ ghost use Rattle.s2_elf.specs.Images.{image_of};
 ghost use Rattle.s2_run.specs.Endings.{Ends, IsRunAnswer, IsScriptAnswer, IsFileAnswer, IsSizeAnswer, NamesLine, RunsScript, TakesLine, TakesWhole, TakesNothing, WritesNothing};
 ghost use Rattle.s2_run.specs.Reasons.{file_limit, IsAccepted, IsRefused, ScriptOnly, FileOnly, RunOnly, ReadCause, SizeCause, WriteCause};
 
-use crate::flat::Flat;
-use crate::report::{counted, halted};
+use crate::flat::FlatMachine;
+use crate::report::{count_line, halt_line};
 use crate::running::run_cycles;
 use crate::script::{read_line, read_ticks};
 use crate::sending::{Cut, put, put_four};
@@ -38,22 +38,22 @@ fn put_end_lines<R: Sink>(report: &mut R, runs: u64, bytes: u64, value: u32) -> 
     ensures cause { SinkCause result (R.faults report.old) (R.faults report.new)
         (R.empty_takes report.old) (R.empty_takes report.new) }
 {
-    let run_line = counted(b"runs", runs);
-    let tick_line = counted(b"ticks", runs);
-    let byte_line = counted(b"bytes", bytes);
-    let halt_line = halted(value);
+    let run_line = count_line(b"runs", runs);
+    let tick_line = count_line(b"ticks", runs);
+    let byte_line = count_line(b"bytes", bytes);
+    let end_line = halt_line(value);
     put_four(
         report,
         run_line.as_slice(),
         tick_line.as_slice(),
         byte_line.as_slice(),
-        halt_line.as_slice(),
+        end_line.as_slice(),
     )
 }
 
 /// Runs a program for so many ticks, and writes what it writes.
 fn run_ticks<C: Sink, R: Sink>(
-    machine: &mut Flat,
+    machine: &mut FlatMachine,
     ticks: u64,
     console: &mut C,
     report: &mut R,
@@ -82,7 +82,7 @@ fn run_ticks<C: Sink, R: Sink>(
 
 /// Reads the first line of the input and runs its ticks.
 fn run_script<S: Source, C: Sink, R: Sink>(
-    machine: &mut Flat,
+    machine: &mut FlatMachine,
     input: &mut S,
     console: &mut C,
     report: &mut R,
@@ -142,7 +142,7 @@ fn run_file<S: Source, C: Sink, R: Sink>(
 {
     match read_elf(alloc, bytes) {
         Ok(image) => {
-            let mut machine = Flat::start(image);
+            let mut machine = FlatMachine::start(image);
             run_script(&mut machine, input, console, report)
         }
         Err(ElfFail::Memory) => Status::Memory,

@@ -49,7 +49,7 @@ impl Model for Cpu {
     } };
 }
 
-/// The place of a virtual address in kseg0 or kseg1, in kernel mode.
+/// The physical address of a virtual one in kseg0 or kseg1, in kernel mode.
 fn direct(va: u32) -> Option<u32>
     ensures { result ≡ direct_of (segment_at va false) }
 {
@@ -91,14 +91,6 @@ impl Cpu {
         self.run
     }
 
-    /// The word of a general register.
-    fn register(&self, n: u8) -> u32
-        requires { n < 32 }
-        ensures { result ≡ register self.now n }
-    {
-        self.registers[n as usize]
-    }
-
     /// The word that pc names.
     fn fetch(&self, local: &[u32]) -> Option<u32>
         requires { length local.now ≡ local_words }
@@ -122,7 +114,7 @@ impl Cpu {
         ensures step { result ≡ shift_step self.now op rd rt sa }
         ensures sound { IsSound result }
     {
-        let value = self.register(rt);
+        let value = self.registers[rt as usize];
         match op {
             OpS::Sll => Step::Set {
                 reg: rd,
@@ -138,7 +130,7 @@ impl Cpu {
         ensures step { result ≡ immediate_step self.now op rt rs imm }
         ensures sound { IsSound result }
     {
-        let value = self.register(rs);
+        let value = self.registers[rs as usize];
         match op {
             OpI::Addiu => Step::Set {
                 reg: rt,
@@ -170,7 +162,7 @@ impl Cpu {
         ensures sound { IsSound result }
     {
         let taken = match op {
-            OpB::Bne => self.register(rs) != self.register(rt),
+            OpB::Bne => self.registers[rs as usize] != self.registers[rt as usize],
         };
         let target = self.npc.wrapping_add(sext16(off as u32).wrapping_mul(4));
         Step::Jump {
@@ -190,7 +182,7 @@ impl Cpu {
             return Step::NotBuilt;
         }
         match (op, direct(va)) {
-            (OpM::Sw, Some(pa)) => store(pa, self.register(rt)),
+            (OpM::Sw, Some(pa)) => store(pa, self.registers[rt as usize]),
             (OpM::Sw, None) => Step::NotBuilt,
         }
     }

@@ -24,14 +24,14 @@ pub enum Cycled {
 
 /// One processor with flat memories. Nothing is delivered to its devices.
 #[derive(Drop)]
-pub struct Flat {
+pub struct FlatMachine {
     cpu: Cpu,
     local: Vec<u32>,
     global: Vec<u32>,
     halt: Option<u32>,
 }
 
-impl Model for Flat {
+impl Model for FlatMachine {
     ghost use Rattle.std.specs.Prelude.{◌≡◌, length};
     ghost use Rattle.s2_base.specs.Map.{local_words, global_words};
     ghost use Rattle.s2_machine.specs.Device.{quiet_device};
@@ -50,9 +50,9 @@ impl Model for Flat {
     ghost invariant = { λ f. (length f.local.items ≡ local_words) × (length f.global.items ≡ global_words) };
 }
 
-impl Flat {
+impl FlatMachine {
     /// The machine at the start of a program.
-    pub fn start(image: Image) -> Flat
+    pub fn start(image: Image) -> FlatMachine
         ensures { result ≡ started image.entry image.local image.global }
     {
         let Image {
@@ -60,7 +60,7 @@ impl Flat {
             local,
             global,
         } = image;
-        Flat {
+        FlatMachine {
             cpu: Cpu::start(entry),
             local,
             global,

@@ -6,11 +6,12 @@ ghost use Rattle.s2_run.specs.ReportText.{count_line, hex_digit, hex_word, halt_
 use arrayvec::ArrayVec;
 use itoa::Buffer;
 
-/// A line with its line feed: a word of at most 8 bytes, a space and a number of at most 20 digits.
+/// A line with its line feed, of at most 30 bytes: a name of at most 8 bytes and a number of at most 20
+/// digits, or the halt value.
 pub type Line = ArrayVec<u8, 32>;
 
 /// A name, a space, a decimal number and a line feed.
-pub fn counted(name: &[u8], n: u64) -> Line
+pub fn count_line(name: &[u8], n: u64) -> Line
     requires { length name.now ≤ 8 }
     ensures { result.items ≡ count_line name.now n }
 {
@@ -49,7 +50,7 @@ fn word(v: u32) -> [u8; 8]
 }
 
 /// The end line of a run that halted.
-pub fn halted(value: u32) -> Line
+pub fn halt_line(value: u32) -> Line
     ensures { result.items ≡ halt_line value }
 {
     let mut line = Line::new();

@@ -6,7 +6,7 @@ ghost use Rattle.s2_io.specs.Sinks.{appended};
 ghost use Rattle.s2_run.specs.Sending.{sent, SinkCause};
 ghost use Rattle.s2_run.specs.Execution.{run_from};
 
-use crate::flat::{Cycled, Flat};
+use crate::flat::{Cycled, FlatMachine};
 use crate::sending::{Cut, put};
 use s2_io::Sink;
 
@@ -30,9 +30,12 @@ fn emit<C: Sink>(console: &mut C, out: Option<u8>) -> Result<u64, Cut>
 
 /// Runs at most `limit` cycles, to a halt or to a cycle that is not built, and counts the bytes that
 /// went to the console.
-pub fn run_cycles<C: Sink>(machine: &mut Flat, limit: u64, console: &mut C) -> Result<u64, Cut>
-    requires few { limit ≤ 254 }
-    requires running { machine.old.halt ≡ None }
+pub fn run_cycles<C: Sink>(
+    machine: &mut FlatMachine,
+    limit: u64,
+    console: &mut C,
+) -> Result<u64, Cut>
+    requires { machine.old.halt ≡ None }
     ensures bytes { C.taken console.new
         ≡ appended (C.taken console.old) (sent result (run_from machine.old limit).bytes) }
     ensures machine { OnOk result (machine.new ≡ (run_from machine.old limit).machine) }

@@ -5,7 +5,7 @@ use Rattle.s2_run.proofs.running.run_cycles.Goals as goal
 
 pub loop-init : goal.loop-init
 loop-init g c = record {
-  run = running_start c.args.machine.now c.args.limit _ c.requires.running;
+  run = running_start c.args.machine.now c.args.limit _ c.requires;
   bounded = omega arith;
   faults = omega arith;
   empty_takes = omega arith;
