@@ -1,7 +1,7 @@
 -- The devices, as plain data: console, keyboard, timer and halt register.
 use Rattle.std.specs.Prelude.{ℕ, ◌+◌, ◌%◌, ◌^◌, Bool, true, false, List, [], ◌∷◌, ◌++◌, length, nat_lt, if◌then◌else◌}
-use Rattle.s2_machine.specs.declared.events.Event.{Event}
-use Rattle.s2_machine.specs.declared.events.Event.TheVariants.{Tick, Key}
+use Rattle.s2_ports.specs.declared.events.Event.{Event}
+use Rattle.s2_ports.specs.declared.events.Event.TheVariants.{Tick, Key}
 
 -- the waiting bytes of the keyboard, at most 16, whether one was lost, the ticks modulo 2 ^ 32 and the
 -- timer line

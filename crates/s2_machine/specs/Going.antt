@@ -1,8 +1,8 @@
 -- A run of one machine under a list of deliveries.
 use Rattle.std.specs.Prelude.{ℕ, zero, suc, ◌-◌, List, [], ◌∷◌, ◌++◌, nat_le, Some, None, if◌then◌else◌}
 use Rattle.std.specs.declared.option.Option.{Option}
-use Rattle.s2_machine.specs.declared.events.Event.{Event}
-use Rattle.s2_machine.specs.declared.events.Delivery.{Delivery}
+use Rattle.s2_ports.specs.declared.events.Event.{Event}
+use Rattle.s2_machine.specs.declared.deliveries.Delivery.{Delivery}
 use Rattle.s2_machine.specs.Device.{device_after, lines_of}
 use Rattle.s2_machine.specs.Machine.{Machine, started}
 use Rattle.s2_machine.specs.Moving.{with_lines}

@@ -3,10 +3,10 @@
 //! The enums below are the values that the definitions share with the code.
 #![tactic(auto)]
 
-mod events;
+mod deliveries;
 mod instr;
 mod step;
 
-pub use events::{Delivery, Event};
+pub use deliveries::Delivery;
 pub use instr::{Instr, OpB, OpI, OpM, OpS};
 pub use step::Step;

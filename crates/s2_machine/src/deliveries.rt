@@ -1,13 +1,6 @@
-//! What comes from outside, and when it acts.
+//! When an event acts.
 
-/// An event of the outside.
-#[derive(Debug, Clone, Copy, PartialEq, Eq)]
-pub enum Event {
-    /// A tick of the timer.
-    Tick,
-    /// A byte from the keyboard.
-    Key(u8),
-}
+use s2_ports::Event;
 
 /// An event, and the run count before whose cycle it acts.
 #[derive(Debug, Clone, Copy, PartialEq, Eq)]
