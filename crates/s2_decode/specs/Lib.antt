@@ -1,0 +1,5 @@
+pub mod Fields
+pub mod Table
+pub mod Properness
+pub mod Units
+pub mod Codes

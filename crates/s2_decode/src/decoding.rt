@@ -1,0 +1,288 @@
+//! The decoder, by the groups of the instruction table: a row is a line.
+
+ghost use Rattle.std.specs.Prelude.{◌≡◌};
+ghost use Rattle.s2_decode.specs.Fields.{op_of, rs_of, rt_of, rd_of, sa_of, fn_of, imm_of, target_of};
+ghost use Rattle.s2_decode.specs.Table.{special_low, special_high, special, regimm, privileged, coprocessor, plain, access, decoded};
+ghost use Rattle.s2_decode.specs.Properness.{IsProper};
+
+use crate::fields::{amount, function, immediate, operation, rd, rs, rt, target};
+use crate::instr::{Instr, Op3, OpB, OpD, OpI, OpM, OpS};
+
+/// A row of three registers.
+fn three(op: Op3, word: u32) -> Instr
+    ensures { result ≡ Instr.Three op (rd_of word) (rs_of word) (rt_of word) }
+{
+    Instr::Three {
+        op,
+        rd: rd(word),
+        rs: rs(word),
+        rt: rt(word),
+    }
+}
+
+/// A row that shifts by the amount in the word.
+fn shift(op: OpS, word: u32) -> Instr
+    ensures { result ≡ Instr.Shift op (rd_of word) (rt_of word) (sa_of word) }
+{
+    Instr::Shift {
+        op,
+        rd: rd(word),
+        rt: rt(word),
+        sa: amount(word),
+    }
+}
+
+/// A row that multiplies or divides.
+fn mul_div(op: OpD, word: u32) -> Instr
+    ensures { result ≡ Instr.MulDiv op (rs_of word) (rt_of word) }
+{
+    Instr::MulDiv {
+        op,
+        rs: rs(word),
+        rt: rt(word),
+    }
+}
+
+/// A branch on two registers.
+fn branch(op: OpB, word: u32) -> Instr
+    ensures { result ≡ Instr.Branch op (rs_of word) (rt_of word) (imm_of word) }
+{
+    Instr::Branch {
+        op,
+        rs: rs(word),
+        rt: rt(word),
+        off: immediate(word),
+    }
+}
+
+/// A branch on one register.
+fn branch_on_one(op: OpB, word: u32) -> Instr
+    ensures { result ≡ Instr.Branch op (rs_of word) 0 (imm_of word) }
+{
+    Instr::Branch {
+        op,
+        rs: rs(word),
+        rt: 0,
+        off: immediate(word),
+    }
+}
+
+/// A row with an immediate.
+fn with_immediate(op: OpI, word: u32) -> Instr
+    ensures { result ≡ Instr.Imm op (rt_of word) (rs_of word) (imm_of word) }
+{
+    Instr::Imm {
+        op,
+        rt: rt(word),
+        rs: rs(word),
+        imm: immediate(word),
+    }
+}
+
+/// A load or store.
+fn memory(op: OpM, word: u32) -> Instr
+    ensures { result ≡ Instr.Memory op (rt_of word) (rs_of word) (imm_of word) }
+{
+    Instr::Memory {
+        op,
+        rt: rt(word),
+        base: rs(word),
+        off: immediate(word),
+    }
+}
+
+/// Operation code 0, function codes below 32.
+fn special_low_row(word: u32) -> Instr
+    ensures { result ≡ special_low word }
+{
+    match function(word) {
+        0 => shift(OpS::Sll, word),
+        2 => shift(OpS::Srl, word),
+        3 => shift(OpS::Sra, word),
+        4 => three(Op3::Sllv, word),
+        6 => three(Op3::Srlv, word),
+        7 => three(Op3::Srav, word),
+        8 => Instr::JumpReg { rs: rs(word) },
+        9 => Instr::JumpLinkReg {
+            rd: rd(word),
+            rs: rs(word),
+        },
+        12 => Instr::Syscall,
+        13 => Instr::Break,
+        16 => Instr::MoveFrom {
+            hi: true,
+            rd: rd(word),
+        },
+        17 => Instr::MoveTo {
+            hi: true,
+            rs: rs(word),
+        },
+        18 => Instr::MoveFrom {
+            hi: false,
+            rd: rd(word),
+        },
+        19 => Instr::MoveTo {
+            hi: false,
+            rs: rs(word),
+        },
+        24 => mul_div(OpD::Mult, word),
+        25 => mul_div(OpD::Multu, word),
+        26 => mul_div(OpD::Div, word),
+        27 => mul_div(OpD::Divu, word),
+        _ => Instr::Reserved(word),
+    }
+}
+
+/// Operation code 0, function codes from 32 on.
+fn special_high_row(word: u32) -> Instr
+    ensures { result ≡ special_high word }
+{
+    match function(word) {
+        32 => three(Op3::Add, word),
+        33 => three(Op3::Addu, word),
+        34 => three(Op3::Sub, word),
+        35 => three(Op3::Subu, word),
+        36 => three(Op3::And, word),
+        37 => three(Op3::Or, word),
+        38 => three(Op3::Xor, word),
+        39 => three(Op3::Nor, word),
+        42 => three(Op3::Slt, word),
+        43 => three(Op3::Sltu, word),
+        _ => Instr::Reserved(word),
+    }
+}
+
+/// Operation code 0, by the function code.
+fn special_row(word: u32) -> Instr
+    ensures { result ≡ special word }
+{
+    if function(word) < 32 {
+        special_low_row(word)
+    } else {
+        special_high_row(word)
+    }
+}
+
+/// Operation code 1, by the rt field.
+fn regimm_row(word: u32) -> Instr
+    ensures { result ≡ regimm word }
+{
+    match rt(word) {
+        0 => branch_on_one(OpB::Bltz, word),
+        1 => branch_on_one(OpB::Bgez, word),
+        16 => branch_on_one(OpB::Bltzal, word),
+        17 => branch_on_one(OpB::Bgezal, word),
+        _ => Instr::Reserved(word),
+    }
+}
+
+/// Operation code 16 with an rs field from 16 on, by the function code.
+fn privileged_row(word: u32) -> Instr
+    ensures { result ≡ privileged word }
+{
+    match function(word) {
+        1 => Instr::Tlbr,
+        2 => Instr::Tlbwi,
+        6 => Instr::Tlbwr,
+        8 => Instr::Tlbp,
+        16 => Instr::Rfe,
+        _ => Instr::Reserved(word),
+    }
+}
+
+/// Operation code 16, by the rs field.
+fn coprocessor_row(word: u32) -> Instr
+    ensures { result ≡ coprocessor word }
+{
+    match rs(word) {
+        0 => Instr::Mfc0 {
+            rt: rt(word),
+            rd: rd(word),
+        },
+        4 => Instr::Mtc0 {
+            rt: rt(word),
+            rd: rd(word),
+        },
+        16..=31 => privileged_row(word),
+        _ => Instr::Reserved(word),
+    }
+}
+
+/// Operation codes below 32 that stand for one row.
+fn plain_row(word: u32) -> Instr
+    ensures { result ≡ plain word }
+{
+    match operation(word) {
+        2 => Instr::Jump {
+            link: false,
+            target: target(word),
+        },
+        3 => Instr::Jump {
+            link: true,
+            target: target(word),
+        },
+        4 => branch(OpB::Beq, word),
+        5 => branch(OpB::Bne, word),
+        6 => branch_on_one(OpB::Blez, word),
+        7 => branch_on_one(OpB::Bgtz, word),
+        8 => with_immediate(OpI::Addi, word),
+        9 => with_immediate(OpI::Addiu, word),
+        10 => with_immediate(OpI::Slti, word),
+        11 => with_immediate(OpI::Sltiu, word),
+        12 => with_immediate(OpI::Andi, word),
+        13 => with_immediate(OpI::Ori, word),
+        14 => with_immediate(OpI::Xori, word),
+        15 => Instr::Lui {
+            rt: rt(word),
+            imm: immediate(word),
+        },
+        17 => Instr::Foreign { unit: 1, word },
+        18 => Instr::Foreign { unit: 2, word },
+        19 => Instr::Foreign { unit: 3, word },
+        _ => Instr::Reserved(word),
+    }
+}
+
+/// Operation codes from 32 on: loads and stores, those of coprocessors too.
+fn access_row(word: u32) -> Instr
+    ensures { result ≡ access word }
+{
+    match operation(word) {
+        32 => memory(OpM::Lb, word),
+        33 => memory(OpM::Lh, word),
+        34 => memory(OpM::Lwl, word),
+        35 => memory(OpM::Lw, word),
+        36 => memory(OpM::Lbu, word),
+        37 => memory(OpM::Lhu, word),
+        38 => memory(OpM::Lwr, word),
+        40 => memory(OpM::Sb, word),
+        41 => memory(OpM::Sh, word),
+        42 => memory(OpM::Swl, word),
+        43 => memory(OpM::Sw, word),
+        46 => memory(OpM::Swr, word),
+        49 => Instr::Foreign { unit: 1, word },
+        50 => Instr::Foreign { unit: 2, word },
+        51 => Instr::Foreign { unit: 3, word },
+        57 => Instr::Foreign { unit: 1, word },
+        58 => Instr::Foreign { unit: 2, word },
+        59 => Instr::Foreign { unit: 3, word },
+        _ => Instr::Reserved(word),
+    }
+}
+
+/// The instruction of a word: each word has one.
+///
+/// Fields that a row does not name are ignored. Source: the opcode bit encoding of the MIPS R2000
+/// instruction set.
+pub fn decode(word: u32) -> Instr
+    ensures row { result ≡ decoded word }
+    ensures proper { IsProper result }
+{
+    match operation(word) {
+        0 => special_row(word),
+        1 => regimm_row(word),
+        16 => coprocessor_row(word),
+        2..=31 => plain_row(word),
+        _ => access_row(word),
+    }
+}

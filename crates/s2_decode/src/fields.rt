@@ -1,0 +1,62 @@
+//! The fields of an instruction word.
+//!
+//! Source: the instruction formats of the MIPS R2000.
+
+ghost use Rattle.std.specs.Prelude.{◌≡◌};
+ghost use Rattle.s2_decode.specs.Fields.{op_of, rs_of, rt_of, rd_of, sa_of, fn_of, imm_of, target_of};
+
+/// The operation code, bits 31 to 26.
+pub fn operation(word: u32) -> u8
+    ensures { result ≡ op_of word }
+{
+    (word / 0x0400_0000) as u8
+}
+
+/// The register in bits 25 to 21.
+pub fn rs(word: u32) -> u8
+    ensures { result ≡ rs_of word }
+{
+    (word / 0x0020_0000 % 32) as u8
+}
+
+/// The register in bits 20 to 16.
+pub fn rt(word: u32) -> u8
+    ensures { result ≡ rt_of word }
+{
+    (word / 0x0001_0000 % 32) as u8
+}
+
+/// The register in bits 15 to 11.
+pub fn rd(word: u32) -> u8
+    ensures { result ≡ rd_of word }
+{
+    (word / 2048 % 32) as u8
+}
+
+/// The shift amount, bits 10 to 6.
+pub fn amount(word: u32) -> u8
+    ensures { result ≡ sa_of word }
+{
+    (word / 64 % 32) as u8
+}
+
+/// The function code, bits 5 to 0.
+pub fn function(word: u32) -> u8
+    ensures { result ≡ fn_of word }
+{
+    (word % 64) as u8
+}
+
+/// The immediate or the offset, bits 15 to 0.
+pub fn immediate(word: u32) -> u16
+    ensures { result ≡ imm_of word }
+{
+    (word % 65536) as u16
+}
+
+/// The target of a jump, bits 25 to 0.
+pub fn target(word: u32) -> u32
+    ensures { result ≡ target_of word }
+{
+    word % 0x0400_0000
+}
