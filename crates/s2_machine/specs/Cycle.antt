@@ -7,9 +7,9 @@ use Rattle.s2_base.specs.declared.places.Place.TheVariants.{Local, Boot, Global,
 use Rattle.s2_machine.specs.Device.{lines_of}
 use Rattle.s2_machine.specs.Machine.{Machine}
 use Rattle.s2_machine.specs.Stepping.{step_of}
-use Rattle.s2_machine.specs.Moving.{set_by, jumped_by, stored_by, with_lines}
+use Rattle.s2_machine.specs.Moving.{set_by, hi_lo_by, jumped_by, stored_by, with_lines}
 use Rattle.s2_machine.specs.declared.step.Step.{Step}
-use Rattle.s2_machine.specs.declared.step.Step.TheVariants.{Set, Jump, Store, NotBuilt}
+use Rattle.s2_machine.specs.declared.step.Step.TheVariants.{Set, SetHiLo, Jump, Store, NotBuilt}
 
 -- what a cycle gives: the next machine, and at most one byte for the console
 pub record Outcome : Type 0 where
@@ -38,7 +38,8 @@ store_cycle m word Nowhere = quiet (record m { cpu = stored_by m.cpu })
 -- a step that is not built leaves the machine as it is
 abbrev pub cycle_by : Machine → Step → Outcome
 cycle_by m (Set reg value) = quiet (record m { cpu = set_by m.cpu reg value })
-cycle_by m (Jump target) = quiet (record m { cpu = jumped_by m.cpu target })
+cycle_by m (SetHiLo hi lo) = quiet (record m { cpu = hi_lo_by m.cpu hi lo })
+cycle_by m (Jump target link) = quiet (record m { cpu = jumped_by m.cpu target link })
 cycle_by m (Store pa word mask) = store_cycle m word (place_at pa)
 cycle_by m NotBuilt = quiet m
 
@@ -49,7 +50,8 @@ cycle m = cycle_by m (step_of m.cpu m.local)
 -- whether the next cycle is built
 abbrev pub is_built_step : Step → Bool
 is_built_step (Set reg value) = true
-is_built_step (Jump target) = true
+is_built_step (SetHiLo hi lo) = true
+is_built_step (Jump target link) = true
 is_built_step (Store pa word mask) = true
 is_built_step NotBuilt = false
 

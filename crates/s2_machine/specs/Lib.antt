@@ -1,10 +1,14 @@
 pub use Rattle.s2_base.specs.Words
 pub use Rattle.s2_base.specs.Map
+pub use Rattle.s2_decode.specs.Fields
+pub use Rattle.s2_decode.specs.Table
+pub use Rattle.s2_decode.specs.Properness
+pub use Rattle.s2_alu.specs.Signed
+pub use Rattle.s2_alu.specs.Rows
 pub mod Registers
 pub mod Processor
 pub mod Device
 pub mod Machine
-pub mod Decoding
 pub mod Stepping
 pub mod Moving
 pub mod Cycle

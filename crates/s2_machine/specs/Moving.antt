@@ -16,9 +16,14 @@ followed p = record p { pc = p.npc; npc = word_sum p.npc 4; slot = false }
 abbrev pub set_by : Processor → ℕ → ℕ → Processor
 set_by p reg value = let q = followed (settled p) in record q { r = register_set q.r reg value }
 
--- a branch or a jump: the instruction of the delay slot follows, and then the target
-abbrev pub jumped_by : Processor → Option ℕ → Processor
-jumped_by p target = let q = settled p in record q { pc = q.npc; npc = unwrap_or target (word_sum q.npc 4); slot = true }
+-- HI and LO are written
+abbrev pub hi_lo_by : Processor → ℕ → ℕ → Processor
+hi_lo_by p hi lo = record (followed (settled p)) { hi = hi; lo = lo }
+
+-- a branch or a jump: the instruction of the delay slot follows, and then the target; the link is the
+-- address behind the delay slot, as pc names it, whatever the slot is
+abbrev pub jumped_by : Processor → Option ℕ → ℕ → Processor
+jumped_by p target link = let q = settled p in record q { pc = q.npc; npc = unwrap_or target (word_sum q.npc 4); slot = true; r = register_set q.r link (word_sum p.pc 8) }
 
 -- a store changes no register
 abbrev pub stored_by : Processor → Processor

@@ -11,7 +11,7 @@ use Rattle.s2_machine.specs.Stepping.{step_of}
 use Rattle.s2_machine.specs.Cycle.{cycle, cycle_by, store_cycle, is_built, is_built_step}
 use Rattle.s2_machine.specs.Going.{Ran, cycled, gone}
 use Rattle.s2_machine.specs.declared.step.Step.{Step}
-use Rattle.s2_machine.specs.declared.step.Step.TheVariants.{Set, Jump, Store, NotBuilt as NoStep}
+use Rattle.s2_machine.specs.declared.step.Step.TheVariants.{Set, SetHiLo, Jump, Store, NotBuilt as NoStep}
 use Rattle.s2_elf.specs.MemoryImage.{MemoryImage}
 use Rattle.s2_run.specs.Transcript.{Outlet, Console, Report, marked}
 use Rattle.s2_run.specs.ReportText.{end_lines}
@@ -65,7 +65,8 @@ counts_place m word Nowhere = refl
 
 counts_by : (m : Machine) (s : Step) → is_built_step s ≡ true → (cycle_by m s).next.cpu.run ≡ (m.cpu.run + 1) % 2 ^ 64
 counts_by m (Set reg value) h = refl
-counts_by m (Jump target) h = refl
+counts_by m (SetHiLo hi lo) h = refl
+counts_by m (Jump target link) h = refl
 counts_by m (Store pa word mask) h = counts_place m word (place_at pa)
 counts_by m NoStep h = cc
 

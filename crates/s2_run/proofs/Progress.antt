@@ -10,10 +10,10 @@ use Rattle.s2_machine.specs.Stepping.{step_of}
 use Rattle.s2_machine.specs.Cycle.{cycle, cycle_by, is_built, is_built_step}
 use Rattle.s2_machine.specs.Going.{Ran, cycled, cycled_unless, bytes_of}
 use Rattle.s2_machine.specs.declared.step.Step.{Step}
-use Rattle.s2_machine.specs.declared.step.Step.TheVariants.{Set, Jump, Store, NotBuilt as NoStep}
+use Rattle.s2_machine.specs.declared.step.Step.TheVariants.{Set, SetHiLo, Jump, Store, NotBuilt as NoStep}
 use Rattle.s2_io.specs.Sinks.{appended}
 use Rattle.s2_run.specs.declared.flat.Cycled.TheVariants.{Ran as RanCycle, NotBuilt}
-use Rattle.s2_run.specs.Proper.{answered}
+use Rattle.s2_run.specs.Sound.{answered}
 use Rattle.s2_run.specs.Execution.{goes_on, run_on, run_from}
 use Rattle.s2_run.proofs.Pieces.{appended_twice, appended_none}
 
@@ -178,7 +178,8 @@ finish_halted {start} {limit} {i} {written} {m} {before} {now} m' out written' n
 
 unbuilt_next : (m : Machine) (s : Step) → is_built_step s ≡ false → (cycle_by m s).next ≡ m
 unbuilt_next m (Set reg value) h = cc
-unbuilt_next m (Jump target) h = cc
+unbuilt_next m (SetHiLo hi lo) h = cc
+unbuilt_next m (Jump target link) h = cc
 unbuilt_next m (Store pa word mask) h = cc
 unbuilt_next m NoStep h = refl
 

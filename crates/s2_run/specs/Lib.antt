@@ -3,7 +3,8 @@ pub use Rattle.s2_base.specs.Map
 pub use Rattle.s2_machine.specs.Processor
 pub use Rattle.s2_machine.specs.Device
 pub use Rattle.s2_machine.specs.Machine
-pub use Rattle.s2_machine.specs.Decoding
+pub use Rattle.s2_decode.specs.Table
+pub use Rattle.s2_decode.specs.Properness
 pub use Rattle.s2_machine.specs.Stepping
 pub use Rattle.s2_machine.specs.Moving
 pub use Rattle.s2_machine.specs.Cycle
@@ -16,7 +17,7 @@ pub use Rattle.s2_elf.specs.MemoryImage
 pub use Rattle.s2_elf.specs.Files
 pub use Rattle.s2_elf.specs.Images
 pub use Rattle.s2_elf.specs.Answers
-pub mod Proper
+pub mod Sound
 pub mod Sending
 pub mod Statuses
 pub mod Transcript

@@ -1,18 +1,13 @@
-//! The processor of the flat machine.
+//! The processor of the flat machine: its state, and how a step changes it.
 
-ghost use Rattle.std.specs.Prelude.{◌≡◌, ◌<◌, ◌^◌, length, false};
-ghost use Rattle.s2_base.specs.Words.{word_sum, sext16_of};
-ghost use Rattle.s2_base.specs.Map.{local_words, place_at, segment_at};
-ghost use Rattle.s2_machine.specs.Registers.{is_interrupted};
+ghost use Rattle.std.specs.Prelude.{◌≡◌, ◌<◌};
+ghost use Rattle.s2_machine.specs.Registers.{is_interrupted, is_isolated};
 ghost use Rattle.s2_machine.specs.Processor.{start_of, register};
 ghost use Rattle.s2_machine.specs.Device.{lines_of, quiet_device};
-ghost use Rattle.s2_machine.specs.Stepping.{step_of, row, shift_step, immediate_step, jump_step, branch_step, memory_step, store_at, direct_of, fetched};
-ghost use Rattle.s2_machine.specs.Moving.{set_by, jumped_by, stored_by, with_lines};
-ghost use Rattle.s2_run.specs.Proper.{IsProper, IsSound};
+ghost use Rattle.s2_machine.specs.Stepping.{translated};
+ghost use Rattle.s2_machine.specs.Moving.{set_by, hi_lo_by, jumped_by, stored_by, with_lines};
 
-use crate::decoding::decode;
-use s2_base::{Place, Segment, place, segment, sext16};
-use s2_machine::{Instr, OpB, OpI, OpM, OpS, Step};
+use s2_base::{Segment, segment};
 use std::marker::Model;
 
 /// The part of a processor's state that the built rows change. All else is as at the start: no load
@@ -20,6 +15,8 @@ use std::marker::Model;
 #[derive(Drop)]
 pub struct Cpu {
     registers: [u32; 32],
+    hi: u32,
+    lo: u32,
     pc: u32,
     npc: u32,
     slot: bool,
@@ -35,8 +32,8 @@ impl Model for Cpu {
 
     ghost view = { λ c. record {
       r = c.registers;
-      hi = 0;
-      lo = 0;
+      hi = c.hi;
+      lo = c.lo;
       pc = c.pc;
       npc = c.npc;
       slot = c.slot;
@@ -49,27 +46,6 @@ impl Model for Cpu {
     } };
 }
 
-/// The physical address of a virtual one in kseg0 or kseg1, in kernel mode.
-fn direct(va: u32) -> Option<u32>
-    ensures { result ≡ direct_of (segment_at va false) }
-{
-    match segment(va, false) {
-        Segment::Direct(pa) => Some(pa),
-        Segment::Mapped | Segment::Denied => None,
-    }
-}
-
-/// A store of a word at a place.
-fn store(pa: u32, word: u32) -> Step
-    ensures step { result ≡ store_at pa word (place_at pa) }
-    ensures sound { IsSound result }
-{
-    match place(pa) {
-        Place::Device(0) | Place::Device(5) => Step::Store { pa, word, mask: 15 },
-        _ => Step::NotBuilt,
-    }
-}
-
 impl Cpu {
     /// The state at the start of a program.
     pub fn start(entry: u32) -> Cpu
@@ -77,6 +53,8 @@ impl Cpu {
     {
         Cpu {
             registers: [0; 32],
+            hi: 0,
+            lo: 0,
             pc: entry,
             npc: entry.wrapping_add(4),
             slot: false,
@@ -91,131 +69,69 @@ impl Cpu {
         self.run
     }
 
-    /// The word that pc names.
-    fn fetch(&self, local: &[u32]) -> Option<u32>
-        requires { length local.now ≡ local_words }
-        ensures word { result ≡ fetched self.now local.now }
-        ensures uninterrupted { is_interrupted self.now.cp0 self.now.lines ≡ false }
+    /// The address of the instruction of the next cycle.
+    pub fn pc(&self) -> u32
+        ensures { result ≡ self.now.pc }
     {
-        if self.pc % 4 != 0 {
-            return None;
-        }
-        match place(direct(self.pc)?) {
-            Place::Local(i) | Place::Boot(i) => Some(local[i as usize]),
-            Place::Global(_) | Place::Device(_) | Place::Nowhere => None,
-        }
+        self.pc
     }
 
-    /// A shift by an amount in the word.
-    fn shift(&self, op: OpS, rd: u8, rt: u8, sa: u8) -> Step
-        requires rd { rd < 32 }
-        requires rt { rt < 32 }
-        requires sa { sa < 32 }
-        ensures step { result ≡ shift_step self.now op rd rt sa }
-        ensures sound { IsSound result }
+    /// The address of the instruction that follows.
+    pub fn npc(&self) -> u32
+        ensures { result ≡ self.now.npc }
     {
-        let value = self.registers[rt as usize];
-        match op {
-            OpS::Sll => Step::Set {
-                reg: rd,
-                value: value << sa,
-            },
-        }
+        self.npc
     }
 
-    /// A row with an immediate.
-    fn immediate(&self, op: OpI, rt: u8, rs: u8, imm: u16) -> Step
-        requires rt { rt < 32 }
-        requires rs { rs < 32 }
-        ensures step { result ≡ immediate_step self.now op rt rs imm }
-        ensures sound { IsSound result }
+    /// A general register.
+    pub fn register(&self, n: u8) -> u32
+        requires { n < 32 }
+        ensures { result ≡ register self.now n }
     {
-        let value = self.registers[rs as usize];
-        match op {
-            OpI::Addiu => Step::Set {
-                reg: rt,
-                value: value.wrapping_add(sext16(imm as u32)),
-            },
-            OpI::Ori => Step::Set {
-                reg: rt,
-                value: value | imm as u32,
-            },
-        }
+        self.registers[n as usize]
     }
 
-    /// A jump.
-    fn jump_to(&self, target: u32) -> Step
-        requires { target < 2 ^ 26 }
-        ensures step { result ≡ jump_step self.now target }
-        ensures sound { IsSound result }
+    /// HI.
+    pub fn hi(&self) -> u32
+        ensures { result ≡ self.now.hi }
     {
-        Step::Jump {
-            target: Some(self.npc / 0x1000_0000 * 0x1000_0000 + target * 4),
-        }
+        self.hi
     }
 
-    /// A branch.
-    fn branch(&self, op: OpB, rs: u8, rt: u8, off: u16) -> Step
-        requires rs { rs < 32 }
-        requires rt { rt < 32 }
-        ensures step { result ≡ branch_step self.now op rs rt off }
-        ensures sound { IsSound result }
+    /// LO.
+    pub fn lo(&self) -> u32
+        ensures { result ≡ self.now.lo }
     {
-        let taken = match op {
-            OpB::Bne => self.registers[rs as usize] != self.registers[rt as usize],
-        };
-        let target = self.npc.wrapping_add(sext16(off as u32).wrapping_mul(4));
-        Step::Jump {
-            target: if taken { Some(target) } else { None },
-        }
+        self.lo
     }
 
-    /// A load or store.
-    fn memory(&self, op: OpM, rt: u8, base: u8, off: u16) -> Step
-        requires rt { rt < 32 }
-        requires base { base < 32 }
-        ensures step { result ≡ memory_step self.now op rt (word_sum (register self.now base) (sext16_of off)) }
-        ensures sound { IsSound result }
+    /// Whether an enabled interrupt is up: never, as long as Status stays 0.
+    pub fn is_interrupted(&self) -> bool
+        ensures { result ≡ is_interrupted self.now.cp0 self.now.lines }
     {
-        let va = self.registers[base as usize].wrapping_add(sext16(off as u32));
-        if va % 4 != 0 {
-            return Step::NotBuilt;
-        }
-        match (op, direct(va)) {
-            (OpM::Sw, Some(pa)) => store(pa, self.registers[rt as usize]),
-            (OpM::Sw, None) => Step::NotBuilt,
-        }
+        // a look at a field shows the proof that coprocessor 0 is as at the start
+        let _ = &self.run;
+        false
     }
 
-    /// What the row of an instruction does.
-    fn row(&self, instr: Instr) -> Step
-        requires { IsProper instr }
-        ensures step { result ≡ row self.now instr }
-        ensures sound { IsSound result }
+    /// Whether the data cache is isolated: never, as long as Status stays 0.
+    pub fn is_isolated(&self) -> bool
+        ensures { result ≡ is_isolated self.now.cp0 }
     {
-        match instr {
-            Instr::Shift { op, rd, rt, sa } => self.shift(op, rd, rt, sa),
-            Instr::Imm { op, rt, rs, imm } => self.immediate(op, rt, rs, imm),
-            Instr::Lui { rt, imm } => Step::Set {
-                reg: rt,
-                value: imm as u32 * 65536,
-            },
-            Instr::Jump { target } => self.jump_to(target),
-            Instr::Branch { op, rs, rt, off } => self.branch(op, rs, rt, off),
-            Instr::Memory { op, rt, base, off } => self.memory(op, rt, base, off),
-            Instr::NotBuilt(_) => Step::NotBuilt,
-        }
+        // a look at a field shows the proof that coprocessor 0 is as at the start
+        let _ = &self.run;
+        false
     }
 
-    /// What the next cycle does.
-    pub fn step(&self, local: &[u32]) -> Step
-        requires { length local.now ≡ local_words }
-        ensures step { result ≡ step_of self.now local.now }
-        ensures sound { IsSound result }
+    /// The physical address of a virtual one, where its segment is translated directly.
+    pub fn translate(&self, va: u32) -> Option<u32>
+        ensures { result ≡ translated self.now va }
     {
-        match self.fetch(local) {
-            Some(word) => self.row(decode(word)),
-            None => Step::NotBuilt,
+        // as above: so the mode is kernel mode
+        let _ = &self.run;
+        match segment(va, false) {
+            Segment::Direct(pa) => Some(pa),
+            Segment::Mapped | Segment::Denied => None,
         }
     }
 
@@ -241,10 +157,23 @@ impl Cpu {
         }
     }
 
-    /// A branch or a jump.
-    pub fn jump(&mut self, target: Option<u32>)
-        ensures { self.new ≡ jumped_by self.old target }
+    /// HI and LO are written, and the next instruction follows.
+    pub fn set_hi_lo(&mut self, hi: u32, lo: u32)
+        ensures { self.new ≡ hi_lo_by self.old hi lo }
     {
+        self.follow();
+        self.hi = hi;
+        self.lo = lo;
+    }
+
+    /// A branch or a jump, with the register that takes the link.
+    pub fn jump(&mut self, target: Option<u32>, link: u8)
+        requires { link < 32 }
+        ensures { self.new ≡ jumped_by self.old target link }
+    {
+        if link != 0 {
+            self.registers[link as usize] = self.pc.wrapping_add(8);
+        }
         self.pc = self.npc;
         self.npc = target.unwrap_or(self.npc.wrapping_add(4));
         self.slot = true;

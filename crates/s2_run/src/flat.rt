@@ -5,9 +5,10 @@ ghost use Rattle.s2_base.specs.Map.{place_at};
 ghost use Rattle.s2_machine.specs.Machine.{started};
 ghost use Rattle.s2_machine.specs.Stepping.{step_of};
 ghost use Rattle.s2_machine.specs.Cycle.{cycle, cycle_by, store_cycle};
-ghost use Rattle.s2_run.specs.Proper.{IsSound, answered};
+ghost use Rattle.s2_run.specs.Sound.{IsSound, answered};
 
 use crate::cpu::Cpu;
+use crate::stepping::step;
 use s2_base::{Place, place};
 use s2_elf::Image;
 use s2_machine::Step;
@@ -100,8 +101,12 @@ impl FlatMachine {
                 self.cpu.set(reg, value);
                 Cycled::Ran(None)
             }
-            Step::Jump { target } => {
-                self.cpu.jump(target);
+            Step::SetHiLo { hi, lo } => {
+                self.cpu.set_hi_lo(hi, lo);
+                Cycled::Ran(None)
+            }
+            Step::Jump { target, link } => {
+                self.cpu.jump(target, link);
                 Cycled::Ran(None)
             }
             Step::Store { pa, word, mask: _ } => Cycled::Ran(self.store(word, place(pa))),
@@ -114,7 +119,7 @@ impl FlatMachine {
         ensures next { self.new ≡ (cycle self.old).next }
         ensures answer { result ≡ answered self.old (step_of self.old.cpu self.old.local) }
     {
-        let step = self.cpu.step(self.local.as_slice());
+        let step = step(&self.cpu, self.local.as_slice());
         self.apply(step)
     }
 

@@ -3,7 +3,6 @@
 
 mod command;
 mod cpu;
-mod decoding;
 mod dispatch;
 mod flat;
 mod report;
@@ -11,6 +10,7 @@ mod running;
 mod script;
 mod sending;
 mod status;
+mod stepping;
 
 pub use dispatch::serve;
 pub use status::Status;

@@ -1,0 +1,10 @@
+-- The dividend and the divisor are those of the definition.
+use Rattle.std.proofs.Common.{rules}
+use Rattle.s2_alu.proofs.SignedWords.{signed_is}
+use Rattle.s2_alu.proofs.products.divide_signed.Goals as goal
+
+pub returns : goal.returns
+returns c =
+    let first = signed_is c.args.a c.ranges.a.fits in
+    let second = signed_is c.args.b c.ranges.b.fits in
+    rw (first, second) (search rules)

@@ -1,0 +1,238 @@
+//! What a cycle does: the fetch, and the rows of the instruction table that are built.
+
+ghost use Rattle.std.specs.Prelude.{◌≡◌, ◌<◌, ◌^◌, length};
+ghost use Rattle.s2_base.specs.Words.{word_sum, sext16_of};
+ghost use Rattle.s2_base.specs.Map.{local_words, place_at};
+ghost use Rattle.s2_decode.specs.Properness.{IsBranchRegister, IsProper};
+ghost use Rattle.s2_machine.specs.Processor.{register};
+ghost use Rattle.s2_machine.specs.Stepping.{step_of, row, set_checked, three_step, immediate_step, move_from, move_to, jump_step, branch_link, branch_step, memory_step, store_at, fetched};
+ghost use Rattle.s2_run.specs.Sound.{IsSound};
+
+use crate::cpu::Cpu;
+use s2_alu::{add_signed, mul_div, shift, sub_signed, taken, three};
+use s2_base::{Place, place, sext16};
+use s2_decode::{Instr, Op3, OpB, OpD, OpI, OpM, OpS, decode};
+use s2_machine::Step;
+
+/// The word that pc names.
+fn fetch(cpu: &Cpu, local: &[u32]) -> Option<u32>
+    requires { length local.now ≡ local_words }
+    ensures { result ≡ fetched cpu.now local.now }
+{
+    let pc = cpu.pc();
+    if pc % 4 != 0 {
+        return None;
+    }
+    match place(cpu.translate(pc)?) {
+        Place::Local(i) | Place::Boot(i) => Some(local[i as usize]),
+        Place::Global(_) | Place::Device(_) | Place::Nowhere => None,
+    }
+}
+
+/// A register takes a value, if there was no overflow.
+fn set_unless_overflow(reg: u8, value: Option<u32>) -> Step
+    requires { reg < 32 }
+    ensures step { result ≡ set_checked reg value }
+    ensures sound { IsSound result }
+{
+    match value {
+        Some(value) => Step::Set { reg, value },
+        None => Step::NotBuilt,
+    }
+}
+
+/// A row of three registers.
+fn three_registers(cpu: &Cpu, op: Op3, rd: u8, rs: u8, rt: u8) -> Step
+    requires rd { rd < 32 }
+    requires rs { rs < 32 }
+    requires rt { rt < 32 }
+    ensures step { result ≡ three_step cpu.now op rd rs rt }
+    ensures sound { IsSound result }
+{
+    let s = cpu.register(rs);
+    let t = cpu.register(rt);
+    match op {
+        Op3::Add => set_unless_overflow(rd, add_signed(s, t)),
+        Op3::Sub => set_unless_overflow(rd, sub_signed(s, t)),
+        _ => Step::Set {
+            reg: rd,
+            value: three(op, s, t),
+        },
+    }
+}
+
+/// A row with an immediate.
+fn immediate(cpu: &Cpu, op: OpI, rt: u8, rs: u8, imm: u16) -> Step
+    requires rt { rt < 32 }
+    requires rs { rs < 32 }
+    ensures step { result ≡ immediate_step cpu.now op rt rs imm }
+    ensures sound { IsSound result }
+{
+    let s = cpu.register(rs);
+    let signed = sext16(imm as u32);
+    let value = match op {
+        OpI::Addi => return set_unless_overflow(rt, add_signed(s, signed)),
+        OpI::Addiu => s.wrapping_add(signed),
+        OpI::Slti => three(Op3::Slt, s, signed),
+        OpI::Sltiu => three(Op3::Sltu, s, signed),
+        OpI::Andi => s & imm as u32,
+        OpI::Ori => s | imm as u32,
+        OpI::Xori => s ^ imm as u32,
+    };
+    Step::Set { reg: rt, value }
+}
+
+/// A branch, relative to the delay slot.
+fn branch(cpu: &Cpu, op: OpB, rs: u8, rt: u8, off: u16) -> Step
+    requires rs { rs < 32 }
+    requires rt { IsBranchRegister op rt }
+    ensures step { result ≡ branch_step cpu.now op rs rt off }
+    ensures sound { IsSound result }
+{
+    let link = link_of(op);
+    if taken(op, cpu.register(rs), cpu.register(rt)) {
+        let target = cpu.npc().wrapping_add(sext16(off as u32).wrapping_mul(4));
+        Step::Jump {
+            target: Some(target),
+            link,
+        }
+    } else {
+        Step::Jump { target: None, link }
+    }
+}
+
+/// The register that a branch links, 0 for none.
+fn link_of(op: OpB) -> u8
+    ensures link { result ≡ branch_link op }
+    ensures below { result < 32 }
+{
+    match op {
+        OpB::Bltzal | OpB::Bgezal => 31,
+        _ => 0,
+    }
+}
+
+/// A store of a word at a place.
+fn store(pa: u32, word: u32) -> Step
+    ensures step { result ≡ store_at pa word (place_at pa) }
+    ensures sound { IsSound result }
+{
+    match place(pa) {
+        Place::Device(0) | Place::Device(5) => Step::Store { pa, word, mask: 15 },
+        _ => Step::NotBuilt,
+    }
+}
+
+/// A load or store; of these the store of a word is built.
+fn memory(cpu: &Cpu, op: OpM, rt: u8, base: u8, off: u16) -> Step
+    requires rt { rt < 32 }
+    requires base { base < 32 }
+    ensures step { result ≡ memory_step cpu.now op rt (word_sum (register cpu.now base) (sext16_of off)) }
+    ensures sound { IsSound result }
+{
+    let va = cpu.register(base).wrapping_add(sext16(off as u32));
+    match op {
+        OpM::Sw => store_word(cpu, rt, va),
+        _ => Step::NotBuilt,
+    }
+}
+
+/// The store of a register at a virtual address.
+fn store_word(cpu: &Cpu, rt: u8, va: u32) -> Step
+    requires { rt < 32 }
+    ensures step { result ≡ memory_step cpu.now OpM.Sw rt va }
+    ensures sound { IsSound result }
+{
+    if va % 4 != 0 || cpu.is_isolated() {
+        return Step::NotBuilt;
+    }
+    match cpu.translate(va) {
+        Some(pa) => store(pa, cpu.register(rt)),
+        None => Step::NotBuilt,
+    }
+}
+
+/// A jump within the 256 MiB of the delay slot.
+fn jump(cpu: &Cpu, link: bool, target: u32) -> Step
+    requires { target < 2 ^ 26 }
+    ensures step { result ≡ jump_step cpu.now link target }
+    ensures sound { IsSound result }
+{
+    Step::Jump {
+        target: Some(cpu.npc() / 0x1000_0000 * 0x1000_0000 + target * 4),
+        link: if link { 31 } else { 0 },
+    }
+}
+
+/// What the row of an instruction does.
+fn row_of(cpu: &Cpu, instr: Instr) -> Step
+    requires { IsProper instr }
+    ensures step { result ≡ row cpu.now instr }
+    ensures sound { IsSound result }
+{
+    match instr {
+        Instr::Three { op, rd, rs, rt } => three_registers(cpu, op, rd, rs, rt),
+        Instr::Shift { op, rd, rt, sa } => Step::Set {
+            reg: rd,
+            value: shift(op, cpu.register(rt), sa as u32),
+        },
+        Instr::Imm { op, rt, rs, imm } => immediate(cpu, op, rt, rs, imm),
+        Instr::Lui { rt, imm } => Step::Set {
+            reg: rt,
+            value: imm as u32 * 65536,
+        },
+        Instr::MulDiv { op, rs, rt } => {
+            let (hi, lo) = mul_div(op, cpu.register(rs), cpu.register(rt));
+            Step::SetHiLo { hi, lo }
+        }
+        Instr::MoveFrom { hi, rd } => Step::Set {
+            reg: rd,
+            value: if hi { cpu.hi() } else { cpu.lo() },
+        },
+        Instr::MoveTo { hi: true, rs } => Step::SetHiLo {
+            hi: cpu.register(rs),
+            lo: cpu.lo(),
+        },
+        Instr::MoveTo { hi: false, rs } => Step::SetHiLo {
+            hi: cpu.hi(),
+            lo: cpu.register(rs),
+        },
+        Instr::Jump { link, target } => jump(cpu, link, target),
+        Instr::JumpReg { rs } => Step::Jump {
+            target: Some(cpu.register(rs)),
+            link: 0,
+        },
+        Instr::JumpLinkReg { rd, rs } => Step::Jump {
+            target: Some(cpu.register(rs)),
+            link: rd,
+        },
+        Instr::Branch { op, rs, rt, off } => branch(cpu, op, rs, rt, off),
+        Instr::Memory { op, rt, base, off } => memory(cpu, op, rt, base, off),
+        Instr::Syscall
+        | Instr::Break
+        | Instr::Mfc0 { .. }
+        | Instr::Mtc0 { .. }
+        | Instr::Tlbr
+        | Instr::Tlbwi
+        | Instr::Tlbwr
+        | Instr::Tlbp
+        | Instr::Rfe
+        | Instr::Foreign { .. }
+        | Instr::Reserved(_) => Step::NotBuilt,
+    }
+}
+
+/// What the next cycle does.
+pub fn step(cpu: &Cpu, local: &[u32]) -> Step
+    requires { length local.now ≡ local_words }
+    ensures step { result ≡ step_of cpu.now local.now }
+    ensures sound { IsSound result }
+{
+    if cpu.is_interrupted() {
+        return Step::NotBuilt;
+    }
+    match fetch(cpu, local) {
+        Some(word) => row_of(cpu, decode(word)),
+        None => Step::NotBuilt,
+    }
+}
