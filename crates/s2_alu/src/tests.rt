@@ -138,7 +138,7 @@ static BITS: [(u32, u32, u32, u32, u32, u32); 2] = [
 ];
 
 #[test]
-fn products_and_quotients(rt: HostRuntime) {
+fn products_and_quotients_are_those_of_integers(rt: HostRuntime) {
     for row in &PRODUCTS {
         let (a, b, signed, unsigned) = *row;
         assert_eq!(rt; mul_div(OpD::Mult, a, b), signed, "{a} by {b}");
@@ -152,7 +152,7 @@ fn products_and_quotients(rt: HostRuntime) {
 }
 
 #[test]
-fn sums_and_order(rt: HostRuntime) {
+fn sums_overflow_and_numbers_compare_as_integers_do(rt: HostRuntime) {
     for row in &SUMS {
         let (a, b, sum, difference, word_sum, word_difference) = *row;
         assert_eq!(rt; add_signed(a, b), sum, "{a} and {b}");
@@ -170,7 +170,7 @@ fn sums_and_order(rt: HostRuntime) {
 }
 
 #[test]
-fn shifts_and_bits(rt: HostRuntime) {
+fn words_are_shifted_and_joined_bit_by_bit(rt: HostRuntime) {
     for row in &SHIFTS {
         let (v, left, right, with_sign) = *row;
         assert_eq!(rt; shift(OpS::Sll, v, 31), left, "{v}");
@@ -193,7 +193,7 @@ fn shifts_and_bits(rt: HostRuntime) {
 }
 
 #[test]
-fn branches_by_sign(rt: HostRuntime) {
+fn a_branch_is_taken_by_the_sign(rt: HostRuntime) {
     for row in &SIGNS {
         let (a, at_most, above, below, at_least) = *row;
         assert_eq!(rt; taken(OpB::Blez, a, 0), at_most, "{a}");

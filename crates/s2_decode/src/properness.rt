@@ -37,7 +37,7 @@ fn is_reserved(word: u32) -> bool
     }
 }
 
-/// Whether an instruction is one of the table's: whether some word decodes to it.
+/// Whether an instruction is one of the table's: its operands fit the fields of its word.
 ///
 /// Registers and shift amounts are below 32, a target below 2^26, `rt` is 0 in a branch on one
 /// register, and a word that is kept whole is one that decodes to just this instruction. Source: the

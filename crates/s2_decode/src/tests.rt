@@ -195,7 +195,7 @@ fn unused_fields_are_ignored_and_left_out(rt: HostRuntime) {
 }
 
 #[test]
-fn coprocessors_of_words(rt: HostRuntime) {
+fn a_word_needs_its_coprocessor(rt: HostRuntime) {
     for (word, number) in [
         (0x4011_6000, Some(0)),
         (0x4200_0010, Some(0)),
@@ -213,7 +213,7 @@ fn coprocessors_of_words(rt: HostRuntime) {
 }
 
 #[test]
-fn instructions_that_no_word_has(rt: HostRuntime) {
+fn an_instruction_that_no_word_has_is_not_proper(rt: HostRuntime) {
     for instr in [
         Instr::Three {
             op: Op3::Add,

@@ -1,11 +1,12 @@
 //! What a cycle does: the fetch, and the rows of the instruction table that are built.
 
-ghost use Rattle.std.specs.Prelude.{◌≡◌, ◌<◌, ◌^◌, length};
+ghost use Rattle.std.specs.Prelude.{◌≡◌, ◌<◌, ◌^◌, ℕ, Some, length};
 ghost use Rattle.s2_base.specs.Words.{word_sum, sext16_of};
 ghost use Rattle.s2_base.specs.Map.{local_words, place_at};
 ghost use Rattle.s2_decode.specs.Properness.{IsBranchRegister, IsProper};
+ghost use Rattle.s2_alu.specs.Rows.{product_or_quotient};
 ghost use Rattle.s2_machine.specs.Processor.{register};
-ghost use Rattle.s2_machine.specs.Stepping.{step_of, row, set_checked, three_step, immediate_step, move_from, move_to, jump_step, branch_link, branch_step, memory_step, store_at, fetched};
+ghost use Rattle.s2_machine.specs.Stepping.{step_of, row, set_checked, three_step, immediate_step, set_hi_lo, move_from, move_to, jump_step, branch_link, branch_step, memory_step, store_at, fetched};
 ghost use Rattle.s2_run.specs.Sound.{IsSound};
 
 use crate::cpu::Cpu;
@@ -29,14 +30,23 @@ fn fetch(cpu: &Cpu, local: &[u32]) -> Option<u32>
     }
 }
 
-/// A register takes a value, if there was no overflow.
+/// A register takes a word.
+fn set(reg: u8, value: u32) -> Step
+    requires { reg < 32 }
+    ensures step { result ≡ Step.Set reg value }
+    ensures sound { IsSound result }
+{
+    Step::Set { reg, value }
+}
+
+/// A register takes a word, if there was no overflow.
 fn set_unless_overflow(reg: u8, value: Option<u32>) -> Step
     requires { reg < 32 }
     ensures step { result ≡ set_checked reg value }
     ensures sound { IsSound result }
 {
     match value {
-        Some(value) => Step::Set { reg, value },
+        Some(value) => set(reg, value),
         None => Step::NotBuilt,
     }
 }
@@ -54,10 +64,7 @@ fn three_registers(cpu: &Cpu, op: Op3, rd: u8, rs: u8, rt: u8) -> Step
     match op {
         Op3::Add => set_unless_overflow(rd, add_signed(s, t)),
         Op3::Sub => set_unless_overflow(rd, sub_signed(s, t)),
-        _ => Step::Set {
-            reg: rd,
-            value: three(op, s, t),
-        },
+        _ => set(rd, three(op, s, t)),
     }
 }
 
@@ -79,7 +86,7 @@ fn immediate(cpu: &Cpu, op: OpI, rt: u8, rs: u8, imm: u16) -> Step
         OpI::Ori => s | imm as u32,
         OpI::Xori => s ^ imm as u32,
     };
-    Step::Set { reg: rt, value }
+    set(rt, value)
 }
 
 /// A branch, relative to the delay slot.
@@ -164,6 +171,58 @@ fn jump(cpu: &Cpu, link: bool, target: u32) -> Step
     }
 }
 
+/// A jump to the address in a register, with the register that takes the link.
+fn jump_to_register(cpu: &Cpu, rs: u8, link: u8) -> Step
+    requires rs { rs < 32 }
+    requires link { link < 32 }
+    ensures step { result ≡ Step.Jump (Some (register cpu.now rs)) link }
+    ensures sound { IsSound result }
+{
+    Step::Jump {
+        target: Some(cpu.register(rs)),
+        link,
+    }
+}
+
+/// A multiplication or a division, into HI and LO.
+fn multiply_or_divide(cpu: &Cpu, op: OpD, rs: u8, rt: u8) -> Step
+    requires rs { rs < 32 }
+    requires rt { rt < 32 }
+    ensures step { result
+        ≡ set_hi_lo (product_or_quotient op (register cpu.now rs) (register cpu.now rt)) }
+    ensures sound { IsSound result }
+{
+    let (hi, lo) = mul_div(op, cpu.register(rs), cpu.register(rt));
+    Step::SetHiLo { hi, lo }
+}
+
+/// The word that a move takes from HI, or from LO.
+fn from_hi_or_lo(cpu: &Cpu, hi: bool) -> u32
+    ensures { (rd : ℕ) → move_from cpu.now hi rd ≡ Step.Set rd result }
+{
+    if hi { cpu.hi() } else { cpu.lo() }
+}
+
+/// A move to HI, or to LO; the other one stays.
+fn to_hi_or_lo(cpu: &Cpu, hi: bool, rs: u8) -> Step
+    requires { rs < 32 }
+    ensures step { result ≡ move_to cpu.now hi rs }
+    ensures sound { IsSound result }
+{
+    let word = cpu.register(rs);
+    if hi {
+        Step::SetHiLo {
+            hi: word,
+            lo: cpu.lo(),
+        }
+    } else {
+        Step::SetHiLo {
+            hi: cpu.hi(),
+            lo: word,
+        }
+    }
+}
+
 /// What the row of an instruction does.
 fn row_of(cpu: &Cpu, instr: Instr) -> Step
     requires { IsProper instr }
@@ -172,53 +231,21 @@ fn row_of(cpu: &Cpu, instr: Instr) -> Step
 {
     match instr {
         Instr::Three { op, rd, rs, rt } => three_registers(cpu, op, rd, rs, rt),
-        Instr::Shift { op, rd, rt, sa } => Step::Set {
-            reg: rd,
-            value: shift(op, cpu.register(rt), sa as u32),
-        },
+        Instr::Shift { op, rd, rt, sa } => set(rd, shift(op, cpu.register(rt), sa as u32)),
         Instr::Imm { op, rt, rs, imm } => immediate(cpu, op, rt, rs, imm),
-        Instr::Lui { rt, imm } => Step::Set {
-            reg: rt,
-            value: imm as u32 * 65536,
-        },
-        Instr::MulDiv { op, rs, rt } => {
-            let (hi, lo) = mul_div(op, cpu.register(rs), cpu.register(rt));
-            Step::SetHiLo { hi, lo }
-        }
-        Instr::MoveFrom { hi, rd } => Step::Set {
-            reg: rd,
-            value: if hi { cpu.hi() } else { cpu.lo() },
-        },
-        Instr::MoveTo { hi: true, rs } => Step::SetHiLo {
-            hi: cpu.register(rs),
-            lo: cpu.lo(),
-        },
-        Instr::MoveTo { hi: false, rs } => Step::SetHiLo {
-            hi: cpu.hi(),
-            lo: cpu.register(rs),
-        },
+        Instr::Lui { rt, imm } => set(rt, imm as u32 * 65536),
+        Instr::MulDiv { op, rs, rt } => multiply_or_divide(cpu, op, rs, rt),
+        Instr::MoveFrom { hi, rd } => set(rd, from_hi_or_lo(cpu, hi)),
+        Instr::MoveTo { hi, rs } => to_hi_or_lo(cpu, hi, rs),
         Instr::Jump { link, target } => jump(cpu, link, target),
-        Instr::JumpReg { rs } => Step::Jump {
-            target: Some(cpu.register(rs)),
-            link: 0,
-        },
-        Instr::JumpLinkReg { rd, rs } => Step::Jump {
-            target: Some(cpu.register(rs)),
-            link: rd,
-        },
+        Instr::JumpReg { rs } => jump_to_register(cpu, rs, 0),
+        Instr::JumpLinkReg { rd, rs } => jump_to_register(cpu, rs, rd),
         Instr::Branch { op, rs, rt, off } => branch(cpu, op, rs, rt, off),
         Instr::Memory { op, rt, base, off } => memory(cpu, op, rt, base, off),
-        Instr::Syscall
-        | Instr::Break
-        | Instr::Mfc0 { .. }
-        | Instr::Mtc0 { .. }
-        | Instr::Tlbr
-        | Instr::Tlbwi
-        | Instr::Tlbwr
-        | Instr::Tlbp
-        | Instr::Rfe
-        | Instr::Foreign { .. }
-        | Instr::Reserved(_) => Step::NotBuilt,
+        Instr::Syscall | Instr::Break | Instr::Foreign { .. } | Instr::Reserved(_) =>
+            Step::NotBuilt,
+        Instr::Mfc0 { .. } | Instr::Mtc0 { .. } | Instr::Rfe => Step::NotBuilt,
+        Instr::Tlbr | Instr::Tlbwi | Instr::Tlbwr | Instr::Tlbp => Step::NotBuilt,
     }
 }
 

@@ -1,4 +1,4 @@
-//! The trait of stores.
+//! The trait of stores. Its pages and their marks are this project's own (`docs/MACHINE.md`).
 
 ghost use Rattle.std.specs.Prelude.{◌≡◌, ◌<◌, ℕ, Bool, List, length, slice_index, slice_set};
 ghost use Rattle.s2_store.specs.Marks.{marked, AreMarks};
