@@ -1,3 +1,3 @@
 pub use Rattle.s2_base.specs.Words
 pub mod Signed
-pub mod Rows
+pub mod Arithmetic

@@ -1,7 +1,7 @@
 //! Conditions of the branches.
 
 ghost use Rattle.std.specs.Prelude.{◌≡◌};
-ghost use Rattle.s2_alu.specs.Rows.{is_taken};
+ghost use Rattle.s2_alu.specs.Arithmetic.{is_taken};
 
 use s2_decode::OpB;
 

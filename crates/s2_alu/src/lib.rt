@@ -2,12 +2,14 @@
 #![tactic(auto)]
 
 mod branches;
+mod immediates;
 mod products;
 mod shifts;
 mod sums;
 mod three_registers;
 
 pub use branches::taken;
+pub use immediates::immediate;
 pub use products::mul_div;
 pub use shifts::shift;
 pub use sums::{add_signed, sub_signed};

@@ -1,7 +1,7 @@
 //! Products and quotients, into HI and LO.
 
 ghost use Rattle.std.specs.Prelude.{◌≡◌};
-ghost use Rattle.s2_alu.specs.Rows.{product_or_quotient, halves};
+ghost use Rattle.s2_alu.specs.Arithmetic.{product_or_quotient, halves};
 
 use s2_decode::OpD;
 

@@ -1,7 +1,7 @@
 //! Shifts of a word.
 
 ghost use Rattle.std.specs.Prelude.{◌≡◌, ◌<◌};
-ghost use Rattle.s2_alu.specs.Rows.{shifted};
+ghost use Rattle.s2_alu.specs.Arithmetic.{shifted};
 
 use s2_decode::OpS;
 

@@ -2,7 +2,7 @@
 
 ghost use Rattle.std.specs.Prelude.{◌≡◌, ◌+ℤ◌, ◌-ℤ◌, ◌↔◌, FitsSigned, IsSome};
 ghost use Rattle.std.specs.Int.{w32};
-ghost use Rattle.s2_alu.specs.Rows.{signed_sum, signed_difference};
+ghost use Rattle.s2_alu.specs.Arithmetic.{signed_sum, signed_difference};
 ghost use Rattle.s2_alu.specs.Signed.{signed};
 
 /// The sum of two words as signed numbers, or `None` on signed overflow: ADD and ADDI.

@@ -157,13 +157,17 @@ fn sums_overflow_and_numbers_compare_as_integers_do(rt: HostRuntime) {
         let (a, b, sum, difference, word_sum, word_difference) = *row;
         assert_eq!(rt; add_signed(a, b), sum, "{a} and {b}");
         assert_eq!(rt; sub_signed(a, b), difference, "{a} and {b}");
-        assert_eq!(rt; three(Op3::Addu, a, b), word_sum, "{a} and {b}");
-        assert_eq!(rt; three(Op3::Subu, a, b), word_difference, "{a} and {b}");
+        assert_eq!(rt; three(Op3::Addu, a, b), Some(word_sum), "{a} and {b}");
+        assert_eq!(rt;
+            three(Op3::Subu, a, b),
+            Some(word_difference),
+            "{a} and {b}"
+        );
     }
     for row in &ORDER {
         let (a, b, signed, unsigned) = *row;
-        assert_eq!(rt; three(Op3::Slt, a, b), signed, "{a} and {b}");
-        assert_eq!(rt; three(Op3::Sltu, a, b), unsigned, "{a} and {b}");
+        assert_eq!(rt; three(Op3::Slt, a, b), Some(signed), "{a} and {b}");
+        assert_eq!(rt; three(Op3::Sltu, a, b), Some(unsigned), "{a} and {b}");
         assert_eq!(rt; taken(OpB::Beq, a, b), a == b, "{a} and {b}");
         assert_eq!(rt; taken(OpB::Bne, a, b), a != b, "{a} and {b}");
     }
@@ -176,19 +180,19 @@ fn words_are_shifted_and_joined_bit_by_bit(rt: HostRuntime) {
         assert_eq!(rt; shift(OpS::Sll, v, 31), left, "{v}");
         assert_eq!(rt; shift(OpS::Srl, v, 31), right, "{v}");
         assert_eq!(rt; shift(OpS::Sra, v, 31), with_sign, "{v}");
-        assert_eq!(rt; three(Op3::Sllv, 63, v), left, "{v}");
-        assert_eq!(rt; three(Op3::Srlv, 63, v), right, "{v}");
-        assert_eq!(rt; three(Op3::Srav, 63, v), with_sign, "{v}");
+        assert_eq!(rt; three(Op3::Sllv, 63, v), Some(left), "{v}");
+        assert_eq!(rt; three(Op3::Srlv, 63, v), Some(right), "{v}");
+        assert_eq!(rt; three(Op3::Srav, 63, v), Some(with_sign), "{v}");
         assert_eq!(rt; shift(OpS::Sll, v, 0), v, "{v}");
         assert_eq!(rt; shift(OpS::Srl, v, 0), v, "{v}");
         assert_eq!(rt; shift(OpS::Sra, v, 0), v, "{v}");
     }
     for row in &BITS {
         let (a, b, and, or, xor, nor) = *row;
-        assert_eq!(rt; three(Op3::And, a, b), and, "{a} and {b}");
-        assert_eq!(rt; three(Op3::Or, a, b), or, "{a} and {b}");
-        assert_eq!(rt; three(Op3::Xor, a, b), xor, "{a} and {b}");
-        assert_eq!(rt; three(Op3::Nor, a, b), nor, "{a} and {b}");
+        assert_eq!(rt; three(Op3::And, a, b), Some(and), "{a} and {b}");
+        assert_eq!(rt; three(Op3::Or, a, b), Some(or), "{a} and {b}");
+        assert_eq!(rt; three(Op3::Xor, a, b), Some(xor), "{a} and {b}");
+        assert_eq!(rt; three(Op3::Nor, a, b), Some(nor), "{a} and {b}");
     }
 }
 

@@ -2,4 +2,4 @@ pub mod Fields
 pub mod Table
 pub mod Properness
 pub mod Units
-pub mod Codes
+pub mod EncodedWords

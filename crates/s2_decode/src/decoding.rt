@@ -91,6 +91,77 @@ fn memory(op: OpM, word: u32) -> Instr
     }
 }
 
+/// A jump to the address in a register.
+fn jump_reg(word: u32) -> Instr
+    ensures { result ≡ Instr.JumpReg (rs_of word) }
+{
+    Instr::JumpReg { rs: rs(word) }
+}
+
+/// The same, with a link.
+fn jump_link_reg(word: u32) -> Instr
+    ensures { result ≡ Instr.JumpLinkReg (rd_of word) (rs_of word) }
+{
+    Instr::JumpLinkReg {
+        rd: rd(word),
+        rs: rs(word),
+    }
+}
+
+/// A move from HI, or from LO.
+fn move_from(hi: bool, word: u32) -> Instr
+    ensures { result ≡ Instr.MoveFrom hi (rd_of word) }
+{
+    Instr::MoveFrom { hi, rd: rd(word) }
+}
+
+/// A move to HI, or to LO.
+fn move_to(hi: bool, word: u32) -> Instr
+    ensures { result ≡ Instr.MoveTo hi (rs_of word) }
+{
+    Instr::MoveTo { hi, rs: rs(word) }
+}
+
+/// A jump, with or without a link.
+fn jump(link: bool, word: u32) -> Instr
+    ensures { result ≡ Instr.Jump link (target_of word) }
+{
+    Instr::Jump {
+        link,
+        target: target(word),
+    }
+}
+
+/// A load of the upper half of a register.
+fn load_upper(word: u32) -> Instr
+    ensures { result ≡ Instr.Lui (rt_of word) (imm_of word) }
+{
+    Instr::Lui {
+        rt: rt(word),
+        imm: immediate(word),
+    }
+}
+
+/// A move from a register of coprocessor 0.
+fn move_from_control(word: u32) -> Instr
+    ensures { result ≡ Instr.Mfc0 (rt_of word) (rd_of word) }
+{
+    Instr::Mfc0 {
+        rt: rt(word),
+        rd: rd(word),
+    }
+}
+
+/// A move to a register of coprocessor 0.
+fn move_to_control(word: u32) -> Instr
+    ensures { result ≡ Instr.Mtc0 (rt_of word) (rd_of word) }
+{
+    Instr::Mtc0 {
+        rt: rt(word),
+        rd: rd(word),
+    }
+}
+
 /// Operation code 0, function codes below 32.
 fn special_low_row(word: u32) -> Instr
     ensures { result ≡ special_low word }
@@ -102,29 +173,14 @@ fn special_low_row(word: u32) -> Instr
         4 => three(Op3::Sllv, word),
         6 => three(Op3::Srlv, word),
         7 => three(Op3::Srav, word),
-        8 => Instr::JumpReg { rs: rs(word) },
-        9 => Instr::JumpLinkReg {
-            rd: rd(word),
-            rs: rs(word),
-        },
+        8 => jump_reg(word),
+        9 => jump_link_reg(word),
         12 => Instr::Syscall,
         13 => Instr::Break,
-        16 => Instr::MoveFrom {
-            hi: true,
-            rd: rd(word),
-        },
-        17 => Instr::MoveTo {
-            hi: true,
-            rs: rs(word),
-        },
-        18 => Instr::MoveFrom {
-            hi: false,
-            rd: rd(word),
-        },
-        19 => Instr::MoveTo {
-            hi: false,
-            rs: rs(word),
-        },
+        16 => move_from(true, word),
+        17 => move_to(true, word),
+        18 => move_from(false, word),
+        19 => move_to(false, word),
         24 => mul_div(OpD::Mult, word),
         25 => mul_div(OpD::Multu, word),
         26 => mul_div(OpD::Div, word),
@@ -195,14 +251,8 @@ fn coprocessor_row(word: u32) -> Instr
     ensures { result ≡ coprocessor word }
 {
     match rs(word) {
-        0 => Instr::Mfc0 {
-            rt: rt(word),
-            rd: rd(word),
-        },
-        4 => Instr::Mtc0 {
-            rt: rt(word),
-            rd: rd(word),
-        },
+        0 => move_from_control(word),
+        4 => move_to_control(word),
         16..=31 => privileged_row(word),
         _ => Instr::Reserved(word),
     }
@@ -213,14 +263,8 @@ fn plain_row(word: u32) -> Instr
     ensures { result ≡ plain word }
 {
     match operation(word) {
-        2 => Instr::Jump {
-            link: false,
-            target: target(word),
-        },
-        3 => Instr::Jump {
-            link: true,
-            target: target(word),
-        },
+        2 => jump(false, word),
+        3 => jump(true, word),
         4 => branch(OpB::Beq, word),
         5 => branch(OpB::Bne, word),
         6 => branch_on_one(OpB::Blez, word),
@@ -232,10 +276,7 @@ fn plain_row(word: u32) -> Instr
         12 => with_immediate(OpI::Andi, word),
         13 => with_immediate(OpI::Ori, word),
         14 => with_immediate(OpI::Xori, word),
-        15 => Instr::Lui {
-            rt: rt(word),
-            imm: immediate(word),
-        },
+        15 => load_upper(word),
         17 => Instr::Foreign { unit: 1, word },
         18 => Instr::Foreign { unit: 2, word },
         19 => Instr::Foreign { unit: 3, word },

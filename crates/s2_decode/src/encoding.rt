@@ -4,7 +4,7 @@ ghost use Rattle.std.specs.Prelude.{◌≡◌, ℕ, ◌<◌, ◌≤◌, ◌^◌}
 ghost use Rattle.s2_decode.specs.Fields.{op_of, rs_of, rt_of, rd_of, sa_of, fn_of, imm_of, target_of};
 ghost use Rattle.s2_decode.specs.Table.{decoded};
 ghost use Rattle.s2_decode.specs.Properness.{IsProper, IsBranchRegister};
-ghost use Rattle.s2_decode.specs.Codes.{packed, packed_low, packed_target, three_code, shift_code, division_code, immediate_code, memory_code, encoded};
+ghost use Rattle.s2_decode.specs.EncodedWords.{packed, packed_low, packed_target, three_code, shift_code, division_code, immediate_code, memory_code, encoded};
 
 use crate::instr::{Instr, Op3, OpB, OpD, OpI, OpM, OpS};
 

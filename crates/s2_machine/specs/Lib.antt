@@ -4,7 +4,7 @@ pub use Rattle.s2_decode.specs.Fields
 pub use Rattle.s2_decode.specs.Table
 pub use Rattle.s2_decode.specs.Properness
 pub use Rattle.s2_alu.specs.Signed
-pub use Rattle.s2_alu.specs.Rows
+pub use Rattle.s2_alu.specs.Arithmetic
 pub mod Registers
 pub mod Processor
 pub mod Device

@@ -18,7 +18,7 @@ use Rattle.s2_decode.specs.declared.instr.OpM.{OpM}
 use Rattle.s2_decode.specs.declared.instr.OpM.TheVariants.{Sw}
 use Rattle.s2_decode.specs.declared.instr.Instr.{Instr}
 use Rattle.s2_decode.specs.declared.instr.Instr.TheVariants.{Three, Shift, Imm, Lui, MulDiv, MoveFrom, MoveTo, Jump as JumpRow, JumpReg, JumpLinkReg, Branch, Memory, Syscall, Break, Mfc0, Mtc0, Tlbr, Tlbwi, Tlbwr, Tlbp, Rfe, Foreign, Reserved}
-use Rattle.s2_alu.specs.Rows.{signed_sum, signed_difference, shifted, set_below, set_below_unsigned, three_value, Pair, product_or_quotient, is_taken}
+use Rattle.s2_alu.specs.Arithmetic.{signed_sum, signed_difference, shifted, set_below, set_below_unsigned, three_value, Pair, product_or_quotient, is_taken}
 use Rattle.s2_machine.specs.Registers.{is_user, is_isolated, is_interrupted}
 use Rattle.s2_machine.specs.Processor.{Processor, register}
 use Rattle.s2_machine.specs.declared.step.Step.{Step}

@@ -4,7 +4,7 @@ ghost use Rattle.std.specs.Prelude.{◌≡◌, ◌<◌, ◌^◌, ℕ, Some, leng
 ghost use Rattle.s2_base.specs.Words.{word_sum, sext16_of};
 ghost use Rattle.s2_base.specs.Map.{local_words, place_at};
 ghost use Rattle.s2_decode.specs.Properness.{IsBranchRegister, IsProper};
-ghost use Rattle.s2_alu.specs.Rows.{product_or_quotient};
+ghost use Rattle.s2_alu.specs.Arithmetic.{product_or_quotient};
 ghost use Rattle.s2_machine.specs.Processor.{register};
 ghost use Rattle.s2_machine.specs.Stepping.{step_of, row, set_checked, three_step, immediate_step, set_hi_lo, move_from, move_to, jump_step, branch_link, branch_step, memory_step, store_at, fetched};
 ghost use Rattle.s2_run.specs.Sound.{IsSound};

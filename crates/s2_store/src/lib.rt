@@ -5,7 +5,7 @@ mod flat;
 mod store;
 
 pub use flat::FlatStore;
-pub use store::{Store, mark};
+pub use store::{PAGE_WORDS, Store, mark};
 
 #[cfg(test)]
 mod tests;

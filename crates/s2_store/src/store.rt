@@ -1,11 +1,14 @@
 //! The trait of stores. Its pages and their marks are this project's own (`docs/MACHINE.md`).
 
 ghost use Rattle.std.specs.Prelude.{◌≡◌, ◌<◌, ℕ, Bool, List, length, slice_index, slice_set};
-ghost use Rattle.s2_store.specs.Marks.{marked, AreMarks};
+ghost use Rattle.s2_store.specs.Marks.{page_marked, AreMarks};
+
+/// How many words a page has.
+pub const PAGE_WORDS: usize = 1024;
 
 /// A list of words that can be read and written one at a time, in three meanings.
 ///
-/// A page is 1,024 words. A store may keep a mark for each page, which says that a word of it was set;
+/// A page is `PAGE_WORDS` words. A store may keep a mark for each page, which says that a word of it was set;
 /// and it may hold more than its list, as one of several that share their pages does.
 pub trait Store {
     /// The list of words.
@@ -32,15 +35,15 @@ pub trait Store {
     fn set(&mut self, i: u32, v: u32)
         requires { i < length (words self.old) }
         ensures words { words self.new ≡ slice_set (words self.old) i v }
-        ensures marks { marks self.new ≡ marked (marks self.old) i }
+        ensures marks { marks self.new ≡ page_marked (marks self.old) i }
         ensures rest { rest self.new ≡ rest self.old };
 }
 
 /// Marks the page of word `i`, for the `set` of a store with marks. Where no marks are kept it does nothing.
 pub fn mark(marks: &mut [bool], i: u32)
-    ensures { marks.new ≡ marked marks.old i }
+    ensures { marks.new ≡ page_marked marks.old i }
 {
-    let page = i as usize / 1024;
+    let page = i as usize / PAGE_WORDS;
     if page < marks.len() {
         marks[page] = true;
     }

@@ -2,7 +2,7 @@
 use Rattle.std.proofs.Common.{◌≡◌, rules, sym, subst}
 use Rattle.s2_decode.specs.Table.{decoded}
 use Rattle.s2_decode.specs.Properness.{IsProper}
-use Rattle.s2_decode.proofs.Rows.{decoded_proper}
+use Rattle.s2_decode.proofs.TableRows.{decoded_proper}
 use Rattle.s2_decode.proofs.decoding.decode.Goals as goal
 
 pub returns-in_default-clause-proper : goal.returns-in_default-clause-proper

@@ -1,5 +1,5 @@
 -- The word is the one that the encoder makes, and that is the least.
-use Rattle.s2_decode.proofs.Rows.{encoded_least}
+use Rattle.s2_decode.proofs.TableRows.{encoded_least}
 use Rattle.s2_decode.proofs.encoding.encode.Goals as goal
 
 pub returns-clause-least : goal.returns-clause-least

@@ -1,5 +1,5 @@
 -- The word that a row keeps is the one that was decoded.
-use Rattle.s2_decode.proofs.Rows.{foreign_row}
+use Rattle.s2_decode.proofs.TableRows.{foreign_row}
 use Rattle.s2_decode.proofs.properness.is_foreign.Goals as goal
 
 pub returns-in-Foreign : goal.returns-in-Foreign

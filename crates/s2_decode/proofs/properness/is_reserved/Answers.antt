@@ -1,6 +1,6 @@
 -- The word that a row keeps is the one that was decoded.
 use Rattle.std.proofs.Common.{refl}
-use Rattle.s2_decode.proofs.Rows.{reserved_row}
+use Rattle.s2_decode.proofs.TableRows.{reserved_row}
 use Rattle.s2_decode.proofs.properness.is_reserved.Goals as goal
 
 pub returns-in-Reserved : goal.returns-in-Reserved

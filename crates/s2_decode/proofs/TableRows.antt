@@ -3,7 +3,7 @@
 use Rattle.std.proofs.Common.{◌≡◌, ℕ, ◌≤◌, ◌==◌, Bool, true, false, if◌then◌else◌, refl, sym, ◌∙◌, ap, subst, arith}
 use Rattle.std.specs.Prelude.{nat_le, IsTrue, ◌↔◌}
 use Rattle.s2_decode.specs.Fields.{op_of, rs_of, fn_of}
-use Rattle.s2_decode.specs.Codes.{encoded}
+use Rattle.s2_decode.specs.EncodedWords.{encoded}
 use Rattle.s2_decode.specs.Table.{special_high, special_low, regimm, privileged, coprocessor, access, plain, decoded}
 use Rattle.s2_decode.specs.Properness.{IsProper}
 use Rattle.s2_decode.specs.declared.instr.Instr.{Instr}

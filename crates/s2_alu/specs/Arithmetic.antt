@@ -1,13 +1,15 @@
 -- The values of the rows that compute (MIPS R2000, instruction set), over whole and signed numbers. In a
 -- row of three registers a is rs and b is rt.
-use Rattle.std.specs.Prelude.{ℕ, ◌-◌, ◌*◌, ◌/◌, ◌%◌, ◌^◌, ◌==◌, Bool, not, pos, ◌+ℤ◌, ◌-ℤ◌, ◌*ℤ◌, int_lt, int_le, int_div, int_rem, nat_lt, bit_and, bit_or, bit_xor, Option, if◌then◌else◌}
+use Rattle.std.specs.Prelude.{ℕ, ◌-◌, ◌*◌, ◌/◌, ◌%◌, ◌^◌, ◌==◌, Bool, not, pos, ◌+ℤ◌, ◌-ℤ◌, ◌*ℤ◌, int_lt, int_le, int_div, int_rem, nat_lt, bit_and, bit_or, bit_xor, Option, Some, if◌then◌else◌}
 use Rattle.std.specs.Int.{int_div_euclid}
-use Rattle.s2_base.specs.Words.{word_sum}
+use Rattle.s2_base.specs.Words.{word_sum, sext16_of}
 use Rattle.s2_alu.specs.Signed.{signed, modulo, word_of, checked}
 use Rattle.s2_decode.specs.declared.instr.Op3.{Op3}
 use Rattle.s2_decode.specs.declared.instr.Op3.TheVariants.{Add, Addu, Sub, Subu, And, Or, Xor, Nor, Slt, Sltu, Sllv, Srlv, Srav}
 use Rattle.s2_decode.specs.declared.instr.OpS.{OpS}
 use Rattle.s2_decode.specs.declared.instr.OpS.TheVariants.{Sll, Srl, Sra}
+use Rattle.s2_decode.specs.declared.instr.OpI.{OpI}
+use Rattle.s2_decode.specs.declared.instr.OpI.TheVariants.{Addi, Addiu, Slti, Sltiu, Andi, Ori, Xori}
 use Rattle.s2_decode.specs.declared.instr.OpD.{OpD}
 use Rattle.s2_decode.specs.declared.instr.OpD.TheVariants.{Mult, Multu, Div, Divu}
 use Rattle.s2_decode.specs.declared.instr.OpB.{OpB}
@@ -37,22 +39,32 @@ set_below a b = flag (int_lt (signed a) (signed b))
 abbrev pub set_below_unsigned : ℕ → ℕ → ℕ
 set_below_unsigned a b = flag (nat_lt a b)
 
--- the rows of three registers; those of ADD and SUB, which may overflow, are signed_sum and
--- signed_difference, and their lines here only complete the table
-abbrev pub three_value : Op3 → ℕ → ℕ → ℕ
-three_value Add a b = word_sum a b
-three_value Addu a b = word_sum a b
-three_value Sub a b = word_of (pos a -ℤ pos b)
-three_value Subu a b = word_of (pos a -ℤ pos b)
-three_value And a b = bit_and a b
-three_value Or a b = bit_or a b
-three_value Xor a b = bit_xor a b
-three_value Nor a b = 2 ^ 32 - 1 - bit_or a b
-three_value Slt a b = set_below a b
-three_value Sltu a b = set_below_unsigned a b
-three_value Sllv a b = shifted Sll b (a % 32)
-three_value Srlv a b = shifted Srl b (a % 32)
-three_value Srav a b = shifted Sra b (a % 32)
+-- a row of three registers; ADD and SUB give nothing on overflow
+abbrev pub three_value : Op3 → ℕ → ℕ → Option ℕ
+three_value Add a b = signed_sum a b
+three_value Addu a b = Some (word_sum a b)
+three_value Sub a b = signed_difference a b
+three_value Subu a b = Some (word_of (pos a -ℤ pos b))
+three_value And a b = Some (bit_and a b)
+three_value Or a b = Some (bit_or a b)
+three_value Xor a b = Some (bit_xor a b)
+three_value Nor a b = Some (2 ^ 32 - 1 - bit_or a b)
+three_value Slt a b = Some (set_below a b)
+three_value Sltu a b = Some (set_below_unsigned a b)
+three_value Sllv a b = Some (shifted Sll b (a % 32))
+three_value Srlv a b = Some (shifted Srl b (a % 32))
+three_value Srav a b = Some (shifted Sra b (a % 32))
+
+-- a row with an immediate, where a is rs: it is sign-extended by sums and comparisons and zero-extended
+-- else; ADDI gives nothing on overflow
+abbrev pub immediate_value : OpI → ℕ → ℕ → Option ℕ
+immediate_value Addi a imm = signed_sum a (sext16_of imm)
+immediate_value Addiu a imm = Some (word_sum a (sext16_of imm))
+immediate_value Slti a imm = Some (set_below a (sext16_of imm))
+immediate_value Sltiu a imm = Some (set_below_unsigned a (sext16_of imm))
+immediate_value Andi a imm = Some (bit_and a imm)
+immediate_value Ori a imm = Some (bit_or a imm)
+immediate_value Xori a imm = Some (bit_xor a imm)
 
 -- HI and LO
 abbrev pub Pair : Type 0
