@@ -3,7 +3,7 @@ use Rattle.std.proofs.Common.{◌≡◌, ℕ, ◌+◌, ◌<◌, List, [], ◌∷
 use Rattle.std.specs.List.{range_with_len, filter, fold}
 use Rattle.std.proofs.lemmas.Grind.{same_number_lists}
 use Rattle.std.proofs.lemmas.List.FromFn.{length-map-range_with_len, get_or-map-range_with_len}
-use Rattle.s2_base.specs.Map.{local_words, global_words}
+use Rattle.s2_base.specs.declared.map.TheConstants.{LOCAL_WORDS, GLOBAL_WORDS}
 use Rattle.s2_elf.specs.Files.{ProgramHeader, headers_of, entry_of}
 use Rattle.s2_elf.specs.MemoryImage.{MemoryImage}
 use Rattle.s2_elf.specs.Images.{segments_of, placed_byte, image_byte, image_word, local_address, global_address, image_of}
@@ -34,11 +34,11 @@ made_by f n xs long each =
 
 -- an image is that of a file where its parts are
 pub image_from : (bytes : List ℕ) (image : MemoryImage) → image.entry ≡ entry_of bytes
-    → image.local ≡ map (λ i. image_word bytes (local_address i)) (range_with_len 0 local_words)
-    → image.global ≡ map (λ i. image_word bytes (global_address i)) (range_with_len 0 global_words)
+    → image.local ≡ map (λ i. image_word bytes (local_address i)) (range_with_len 0 LOCAL_WORDS)
+    → image.global ≡ map (λ i. image_word bytes (global_address i)) (range_with_len 0 GLOBAL_WORDS)
     → image ≡ image_of bytes
 unfolding image_of
 image_from bytes image entry local global =
     let made = λ (e : ℕ) (l g : List ℕ). let i : MemoryImage = record { entry = e; local = l; global = g } in i in
     ap (λ e. made e image.local image.global) entry ∙ ap (λ l. made (entry_of bytes) l image.global) local
-    ∙ ap (λ g. made (entry_of bytes) (map (λ i. image_word bytes (local_address i)) (range_with_len 0 local_words)) g) global
+    ∙ ap (λ g. made (entry_of bytes) (map (λ i. image_word bytes (local_address i)) (range_with_len 0 LOCAL_WORDS)) g) global

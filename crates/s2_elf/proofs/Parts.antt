@@ -1,5 +1,5 @@
 -- A list whose front and whose rest are written one after the other, as parts of it.
-use Rattle.std.proofs.Common.{◌≡◌, ℕ, ◌+◌, ◌-◌, ◌*◌, ◌<◌, ◌≤◌, List, ◌++◌, length, take, drop, get_or, ltb, inl, inr, sym, ap, ◌∙◌, zero-add, length-append, arith}
+use Rattle.std.proofs.Common.{◌≡◌, ℕ, ◌+◌, ◌-◌, ◌*◌, ◌<◌, ◌≤◌, List, ◌++◌, length, take, drop, get_or, ltb, inl, inr, sym, ap, ◌∙◌, length-append, arith}
 use borrow.Rule.Slice.PartMut.{put_mid}
 use Rattle.std.proofs.lemmas.Bool.{cases_lt, cond-true, cond-false, lt-ltb, le-ltb}
 use Rattle.std.proofs.lemmas.List.{places, length-take, length-drop, get_or-take}
@@ -39,13 +39,13 @@ parts_placed f b k old low high within size low_long low_words high_long high_wo
     elim (cases_lt i b) [
       | inl below ↦
           let address : local_address_at b i ≡ 0 + 4 * i =
-          cond-true (ltb i b) (4 * i) (0x1FC00000 + 4 * (i - b)) (lt-ltb i b below) ∙ sym (zero-add (4 * i)) in
+          cond-true (ltb i b) (0 + 4 * i) (0x1FC00000 + 4 * (i - b)) (lt-ltb i b below) in
           front_written b k i (low ++ drop b old) high below (omega arith) ∙ front_read b i low old (omega arith)
           ∙ low_words i (omega arith) ∙ ap (λ w. f (0 + 4 * i) w) (get_or-take b old i 0 below)
           ∙ ap (λ a. f a (get_or old i 0)) (sym address)
       | inr above ↦
           let address : local_address_at b i ≡ 0x1FC00000 + 4 * (i - b) =
-          cond-false (ltb i b) (4 * i) (0x1FC00000 + 4 * (i - b)) (le-ltb i b above) in
+          cond-false (ltb i b) (0 + 4 * i) (0x1FC00000 + 4 * (i - b)) (le-ltb i b above) in
           rest_written b k i (low ++ drop b old) high above (omega arith) (omega arith)
           ∙ high_words (i - b) (omega arith)
           ∙ ap (λ w. f (0x1FC00000 + 4 * (i - b)) w) (rest_read b k i low old long above (omega arith))

@@ -6,6 +6,7 @@ use Rattle.std.specs.declared.option.Option.{Option}
 use Rattle.s2_base.specs.Map.{place_at, is_between}
 use Rattle.s2_base.specs.declared.places.Place.{Place}
 use Rattle.s2_base.specs.declared.places.Place.TheVariants.{Local, Boot, Global, Device, Nowhere}
+use Rattle.s2_base.specs.declared.map.TheConstants.{UNMAPPED_START, UNMAPPED_END, UNMAPPED_SIZE}
 use Rattle.s2_elf.specs.declared.fault.ElfFault.{ElfFault}
 use Rattle.s2_elf.specs.declared.fault.ElfFault.TheVariants.{Short, Magic, Class, Order, Version, Kind, Machine, TooMany, HeaderSize, TableOutside, Dynamic, Bounds, FileOutside, Placed, Entry}
 
@@ -64,10 +65,10 @@ is_store_of_code Nowhere = false
 
 -- a byte may be loaded at a virtual address of kseg0 or kseg1, which stands for its low 29 bits
 abbrev pub is_loadable : ℕ → Bool
-is_loadable va = is_between 0x80000000 va 0xC0000000 && is_memory (place_at (va % 0x20000000))
+is_loadable va = is_between UNMAPPED_START va UNMAPPED_END && is_memory (place_at (va % UNMAPPED_SIZE))
 
 abbrev pub is_entry : ℕ → Bool
-is_entry va = (va % 4 == 0) && is_between 0x80000000 va 0xC0000000 && is_store_of_code (place_at (va % 0x20000000))
+is_entry va = (va % 4 == 0) && is_between UNMAPPED_START va UNMAPPED_END && is_store_of_code (place_at (va % UNMAPPED_SIZE))
 
 -- the conditions on the table of program headers, each with its refusal, in their order
 abbrev pub table_conditions : List ℕ → List (Bool × ElfFault)

@@ -1,7 +1,8 @@
 -- What an accepted file puts into memory: every word of both lists.
 use Rattle.std.specs.Prelude.{ℕ, ◌+◌, ◌-◌, ◌*◌, ◌%◌, ◌==◌, Bool, List, map, filter, fold, nat_lt, slice_index, if◌then◌else◌}
 use Rattle.std.specs.List.{range_with_len}
-use Rattle.s2_base.specs.Map.{is_between, local_words, global_words}
+use Rattle.s2_base.specs.Map.{is_between}
+use Rattle.s2_base.specs.declared.map.TheConstants.{LOCAL_START, BOOT_START, GLOBAL_START, LOCAL_MEMORY_WORDS, LOCAL_WORDS, GLOBAL_WORDS, UNMAPPED_SIZE}
 use Rattle.s2_elf.specs.MemoryImage.{MemoryImage}
 use Rattle.s2_elf.specs.Files.{ProgramHeader, headers_of, entry_of}
 
@@ -11,7 +12,7 @@ segments_of bytes = filter (λ (h : ProgramHeader). h.kind == 1) (headers_of byt
 
 -- the physical address of a segment's first byte
 abbrev pub base_of : ProgramHeader → ℕ
-base_of h = h.vaddr % 0x20000000
+base_of h = h.vaddr % UNMAPPED_SIZE
 
 -- a segment has a byte at a physical address: its file bytes come first, and zeros after them
 abbrev pub covers : ProgramHeader → ℕ → Bool
@@ -34,15 +35,15 @@ image_word bytes pa = ((image_byte bytes pa * 256 + image_byte bytes (pa + 1)) *
 
 -- the physical address of a word of the local list, and of one of the global list
 abbrev pub local_address : ℕ → ℕ
-local_address i = if nat_lt i 262144 then 4 * i else 0x1FC00000 + 4 * (i - 262144)
+local_address i = if nat_lt i LOCAL_MEMORY_WORDS then LOCAL_START + 4 * i else BOOT_START + 4 * (i - LOCAL_MEMORY_WORDS)
 
 abbrev pub global_address : ℕ → ℕ
-global_address i = 0x04000000 + 4 * i
+global_address i = GLOBAL_START + 4 * i
 
 -- the program in memory
 unfoldable pub image_of : List ℕ → MemoryImage
 image_of bytes = record {
   entry = entry_of bytes;
-  local = map (λ i. image_word bytes (local_address i)) (range_with_len 0 local_words);
-  global = map (λ i. image_word bytes (global_address i)) (range_with_len 0 global_words);
+  local = map (λ i. image_word bytes (local_address i)) (range_with_len 0 LOCAL_WORDS);
+  global = map (λ i. image_word bytes (global_address i)) (range_with_len 0 GLOBAL_WORDS);
 }

@@ -4,6 +4,7 @@ use Rattle.std.specs.List.{list_all}
 use Rattle.s2_base.specs.Map.{place_at, is_between}
 use Rattle.s2_base.specs.declared.places.Place.{Place}
 use Rattle.s2_base.specs.declared.places.Place.TheVariants.{Local, Boot, Global, Device, Nowhere}
+use Rattle.s2_base.specs.declared.map.TheConstants.{LOCAL_START, LOCAL_END, BOOT_START, BOOT_END, GLOBAL_END, UNMAPPED_START, UNMAPPED_END, UNMAPPED_SIZE}
 use Rattle.s2_elf.specs.declared.headers.SegmentHeader.{SegmentHeader}
 use Rattle.s2_elf.specs.declared.fault.ElfFault.{ElfFault}
 use Rattle.s2_elf.specs.Files.{ProgramHeader, entry_of, segment_conditions, is_entry}
@@ -20,9 +21,9 @@ is_loaded bytes h =
 
 -- how many bytes from a physical address on are of the memory that it lies in, if it lies in one
 abbrev pub room_within : ℕ → Place → ℕ
-room_within pa (Local i) = 0x00100000 - pa
-room_within pa (Boot i) = 0x1FC10000 - pa
-room_within pa (Global i) = 0x04100000 - pa
+room_within pa (Local i) = LOCAL_END - pa
+room_within pa (Boot i) = BOOT_END - pa
+room_within pa (Global i) = GLOBAL_END - pa
 room_within pa (Device k) = 0
 room_within pa Nowhere = 0
 
@@ -31,7 +32,7 @@ room_from pa = room_within pa (place_at pa)
 
 -- how many bytes from a virtual address on may be loaded
 abbrev pub room_at : ℕ → ℕ
-room_at va = if is_between 0x80000000 va 0xC0000000 then room_from (va % 0x20000000) else 0
+room_at va = if is_between UNMAPPED_START va UNMAPPED_END then room_from (va % UNMAPPED_SIZE) else 0
 
 -- the file has the file bytes of a segment
 abbrev pub HasFileBytes : ProgramHeader → List ℕ → Type 0
@@ -46,4 +47,4 @@ placed_word bytes pa old h =
 
 -- the physical address of a word of the local list, whose words before the boundary are of local memory
 abbrev pub local_address_at : ℕ → ℕ → ℕ
-local_address_at boundary i = if nat_lt i boundary then 4 * i else 0x1FC00000 + 4 * (i - boundary)
+local_address_at boundary i = if nat_lt i boundary then LOCAL_START + 4 * i else BOOT_START + 4 * (i - boundary)

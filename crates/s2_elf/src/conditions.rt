@@ -9,20 +9,13 @@ use crate::ElfFault;
 use crate::headers::{
     FILE_HEADER_SIZE, PROGRAM_HEADER_SIZE, SegmentHeader, count_of, half_at, number_at, table_of,
 };
-use s2_base::{Place, Segment, place, segment};
+use s2_base::{BOOT_END, GLOBAL_END, LOCAL_END, Place, Segment, place, segment};
 
 /// `7F 45 4C 46`, the first four bytes of a file.
 const MAGIC: u32 = 0x7F45_4C46;
 
-/// How many program headers a file may have.
+/// How many program headers a file may have. The limit is this project's own.
 const MOST_HEADERS: u16 = 64;
-
-/// The physical address past the end of local memory, of the boot store and of global memory.
-const LOCAL_END: u32 = 0x0010_0000;
-
-const BOOT_END: u32 = 0x1FC1_0000;
-
-const GLOBAL_END: u32 = 0x0410_0000;
 
 /// The first condition on the file's header that is false.
 ///

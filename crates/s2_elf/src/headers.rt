@@ -6,6 +6,7 @@ ghost use Rattle.s2_elf.specs.Images.{base_of};
 ghost use Rattle.s2_elf.specs.Placing.{header_of};
 
 use byteorder::{BigEndian, ByteOrder};
+use s2_base::UNMAPPED_SIZE;
 
 /// The size of a file's header in bytes (ELF-32 specification, ELF header).
 pub const FILE_HEADER_SIZE: usize = 52;
@@ -35,7 +36,7 @@ impl SegmentHeader {
     pub fn base(self) -> u32
         ensures { result ≡ base_of (header_of self) }
     {
-        self.vaddr % 0x2000_0000
+        self.vaddr % UNMAPPED_SIZE
     }
 }
 

@@ -19,12 +19,12 @@ pub struct Image {
 
 impl Model for Image {
     ghost use Rattle.std.specs.Prelude.{◌≡◌, length};
-    ghost use Rattle.s2_base.specs.Map.{local_words, global_words};
+    ghost use Rattle.s2_base.specs.declared.map.TheConstants.{LOCAL_WORDS, GLOBAL_WORDS};
     ghost use Rattle.s2_elf.specs.MemoryImage.{MemoryImage};
 
     ghost Value = { MemoryImage };
 
     ghost view = { λ i. record { entry = i.entry; local = i.local.items; global = i.global.items } };
 
-    ghost invariant = { λ i. (length i.local.items ≡ local_words) × (length i.global.items ≡ global_words) };
+    ghost invariant = { λ i. (length i.local.items ≡ LOCAL_WORDS) × (length i.global.items ≡ GLOBAL_WORDS) };
 }

@@ -1,13 +1,12 @@
 //! A segment's bytes, placed over words of memory.
 
 ghost use Rattle.std.specs.Prelude.{◌≡◌, ℕ, ◌+◌, ◌*◌, ◌^◌, ◌<◌, ◌≤◌, ◌⊎◌, List, length, slice_index};
+ghost use Rattle.s2_base.specs.declared.map.TheConstants.{BOOT_START};
 ghost use Rattle.s2_elf.specs.Images.{placed_byte};
 ghost use Rattle.s2_elf.specs.Placing.{header_of, local_address_at, placed_word, HasFileBytes};
 
 use crate::headers::SegmentHeader;
-
-/// The physical address of the boot store's first word.
-const BOOT_START: u32 = 0x1FC0_0000;
+use s2_base::{BOOT_START, LOCAL_START};
 
 /// Places a segment's bytes over the words that it touches; `base` is the physical address of the
 /// first word, and words have their most significant byte at the lowest address.
@@ -29,12 +28,12 @@ pub fn place_over(words: &mut [u32], base: u32, header: SegmentHeader, bytes: &[
 /// memory, and the others those of the boot store.
 pub fn place_local(words: &mut [u32], boundary: usize, header: SegmentHeader, bytes: &[u8])
     requires parts { boundary ≤ length words.old }
-    requires addresses { 0x1FC00000 + 4 * length words.old ≤ 2 ^ 32 }
+    requires addresses { BOOT_START + 4 * length words.old ≤ 2 ^ 32 }
     requires file { HasFileBytes (header_of header) bytes.now }
     ensures { (i : ℕ) → i < length words.old → slice_index words.new i
         ≡ placed_word bytes.now (local_address_at boundary i) (slice_index words.old i) (header_of header) }
 {
-    place_over(&mut words[..boundary], 0, header, bytes);
+    place_over(&mut words[..boundary], LOCAL_START, header, bytes);
     place_over(&mut words[boundary..], BOOT_START, header, bytes);
 }
 

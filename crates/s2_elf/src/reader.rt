@@ -2,8 +2,8 @@
 
 ghost use Rattle.std.specs.Prelude.{◌≡◌, ℕ, ◌+◌, ◌*◌, ◌<◌, ◌≤◌, true, length, slice_index, IfSome, IfOk, OnErr, MatchResult};
 ghost use Rattle.std.specs.Option.{is_some};
-ghost use Rattle.s2_base.specs.Map.{local_words, global_words};
-ghost use Rattle.s2_elf.specs.Answers.{ReadsElf};
+ghost use Rattle.s2_base.specs.declared.map.TheConstants.{LOCAL_WORDS, GLOBAL_WORDS};
+ghost use Rattle.s2_elf.specs.LoadResult.{ReadsElf};
 ghost use Rattle.s2_elf.specs.Files.{is_readable, header_at, table_of};
 ghost use Rattle.s2_elf.specs.Images.{image_of, local_address, global_address};
 ghost use Rattle.s2_elf.specs.Placing.{header_of, is_loaded, placed_word, HasFileBytes};
@@ -12,19 +12,8 @@ use crate::conditions::{file_fault, is_entry, segment_fault};
 use crate::headers::{SegmentHeader, count_of, entry_of, header_at, table_of};
 use crate::placing::{place_local, place_over};
 use crate::{ElfFail, Image};
+use s2_base::{GLOBAL_START, GLOBAL_WORDS, LOCAL_MEMORY_WORDS, LOCAL_WORDS};
 use std::alloc::Global;
-
-/// How many words the local list has: those of local memory, and after them those of the boot store.
-const LOCAL_WORDS: usize = 278_528;
-
-/// How many of them are those of local memory.
-const LOCAL_MEMORY_WORDS: usize = 262_144;
-
-/// How many words the global list has.
-const GLOBAL_WORDS: usize = 262_144;
-
-/// The physical address of global memory's first word.
-const GLOBAL_START: u32 = 0x0400_0000;
 
 /// The image of an ELF file.
 ///
@@ -84,12 +73,12 @@ fn load(alloc: Global, bytes: &[u8], header: SegmentHeader) -> Result<Image, Elf
 fn local_list(alloc: Global, bytes: &[u8], header: SegmentHeader) -> Result<Vec<u32>, ElfFail>
     requires { HasFileBytes (header_of header) bytes.now }
     ensures memory { OnErr result (result ≡ Err ElfFail.Memory) }
-    ensures count { IfOk result (λ v. length v.items ≡ local_words) }
+    ensures count { IfOk result (λ v. length v.items ≡ LOCAL_WORDS) }
     ensures words { IfOk result (λ v. (i : ℕ) → i < length v.items
         → slice_index v.items i ≡ placed_word bytes.now (local_address i) 0 (header_of header)) }
 {
-    let mut words = zeros(alloc, LOCAL_WORDS)?;
-    place_local(&mut words, LOCAL_MEMORY_WORDS, header, bytes);
+    let mut words = zeros(alloc, LOCAL_WORDS as usize)?;
+    place_local(&mut words, LOCAL_MEMORY_WORDS as usize, header, bytes);
     Ok(words)
 }
 
@@ -97,11 +86,11 @@ fn local_list(alloc: Global, bytes: &[u8], header: SegmentHeader) -> Result<Vec<
 fn global_list(alloc: Global, bytes: &[u8], header: SegmentHeader) -> Result<Vec<u32>, ElfFail>
     requires { HasFileBytes (header_of header) bytes.now }
     ensures memory { OnErr result (result ≡ Err ElfFail.Memory) }
-    ensures count { IfOk result (λ v. length v.items ≡ global_words) }
+    ensures count { IfOk result (λ v. length v.items ≡ GLOBAL_WORDS) }
     ensures words { IfOk result (λ v. (i : ℕ) → i < length v.items
         → slice_index v.items i ≡ placed_word bytes.now (global_address i) 0 (header_of header)) }
 {
-    let mut words = zeros(alloc, GLOBAL_WORDS)?;
+    let mut words = zeros(alloc, GLOBAL_WORDS as usize)?;
     place_over(&mut words, GLOBAL_START, header, bytes);
     Ok(words)
 }

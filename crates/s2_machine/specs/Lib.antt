@@ -5,11 +5,11 @@ pub use Rattle.s2_decode.specs.Table
 pub use Rattle.s2_decode.specs.Properness
 pub use Rattle.s2_alu.specs.Signed
 pub use Rattle.s2_alu.specs.Arithmetic
-pub mod Registers
+pub mod ControlRegisters
 pub mod Processor
 pub mod Device
 pub mod Machine
-pub mod Stepping
-pub mod Moving
+pub mod CycleCases
+pub mod WriteBack
 pub mod Cycle
-pub mod Going
+pub mod MachineRun

@@ -1,7 +1,7 @@
 -- The state of a processor, as plain data.
 use Rattle.std.specs.Prelude.{ℕ, ◌==◌, Bool, false, List, replicate, slice_index, slice_set, if◌then◌else◌}
 use Rattle.s2_base.specs.Words.{word_sum}
-use Rattle.s2_machine.specs.Registers.{Registers, blank_registers}
+use Rattle.s2_machine.specs.ControlRegisters.{ControlRegisters, blank_control_registers}
 
 -- the 32 general registers, HI and LO, the place of this and of the next instruction, whether this one
 -- stands in a delay slot, the pending load (register 0: none), coprocessor 0, the 64 pairs of the
@@ -15,7 +15,7 @@ pub record Processor : Type 0 where
   pub slot : Bool
   pub load_reg : ℕ
   pub load_value : ℕ
-  pub cp0 : Registers
+  pub cp0 : ControlRegisters
   pub tlb : List (ℕ × ℕ)
   pub run : ℕ
   pub lines : ℕ
@@ -31,7 +31,7 @@ start_of entry = record {
   slot = false;
   load_reg = 0;
   load_value = 0;
-  cp0 = blank_registers;
+  cp0 = blank_control_registers;
   tlb = replicate 64 (0, 0);
   run = 0;
   lines = 0;

@@ -7,53 +7,53 @@ use Rattle.s2_base.specs.Map.{place_at}
 use Rattle.s2_base.specs.declared.places.Place.{Place}
 use Rattle.s2_base.specs.declared.places.Place.TheVariants.{Local, Boot, Global, Device, Nowhere}
 use Rattle.s2_machine.specs.Machine.{Machine}
-use Rattle.s2_machine.specs.Stepping.{step_of}
+use Rattle.s2_machine.specs.CycleCases.{step_of}
 use Rattle.s2_machine.specs.Cycle.{cycle, cycle_by, store_cycle, is_built, is_built_step}
-use Rattle.s2_machine.specs.Going.{Ran, cycled, gone}
+use Rattle.s2_machine.specs.MachineRun.{RunState, after_cycle, run_of_cycles}
 use Rattle.s2_machine.specs.declared.step.Step.{Step}
 use Rattle.s2_machine.specs.declared.step.Step.TheVariants.{Set, SetHiLo, Jump, Store, NotBuilt as NoStep}
 use Rattle.s2_elf.specs.MemoryImage.{MemoryImage}
-use Rattle.s2_run.specs.Transcript.{Outlet, Console, Report, marked}
+use Rattle.s2_run.specs.Transcript.{Outlet, Console, Report, for_outlet}
 use Rattle.s2_run.specs.ReportText.{end_lines}
-use Rattle.s2_run.specs.Execution.{alone, Halts, Stops, halt_transcript, stop_transcript, goes_on, run_on, run_from, status_at, transcript_at, end_lines_at, cycle_limit, started_image}
+use Rattle.s2_run.specs.Execution.{alone, Halts, Stops, halt_transcript, stop_transcript, can_continue, bounded_run, run_within, status_at, transcript_at, end_lines_at, cycle_limit, started_image}
 use Rattle.s2_run.specs.Endings.{Ends}
 use Rattle.s2_run.specs.declared.status.Status.{Status}
 use Rattle.s2_run.specs.declared.status.Status.TheVariants.{Done, NotBuilt}
 use Rattle.s2_run.proofs.Progress.{on_by, stay, goes, stuck, over, cycled_is}
 
 -- so many cycles, one after the other
-abbrev after : ℕ → Ran → Ran
+abbrev after : ℕ → RunState → RunState
 after zero ran = ran
-after (suc n) ran = cycled (after n ran)
+after (suc n) ran = after_cycle (after n ran)
 
-after_first : (n : ℕ) (ran : Ran) → after n (cycled ran) ≡ cycled (after n ran)
+after_first : (n : ℕ) (ran : RunState) → after n (after_cycle ran) ≡ after_cycle (after n ran)
 after_first zero ran = refl
-after_first (suc n) ran = ap cycled (after_first n ran)
+after_first (suc n) ran = ap after_cycle (after_first n ran)
 
 -- without deliveries a run is its cycles
-gone_after : (n run : ℕ) (ran : Ran) → gone n run ran [] ≡ after n ran
+gone_after : (n run : ℕ) (ran : RunState) → run_of_cycles n run ran [] ≡ after n ran
 gone_after zero run ran = refl
-gone_after (suc n) run ran = gone_after n (suc run) (cycled ran) ∙ after_first n ran
+gone_after (suc n) run ran = gone_after n (suc run) (after_cycle ran) ∙ after_first n ran
 
-abbrev fresh : MemoryImage → Ran
+abbrev fresh : MemoryImage → RunState
 fresh image = record { machine = started_image image; bytes = [] }
 
 alone_after : (image : MemoryImage) (k : ℕ) → alone image k ≡ after k (fresh image)
-alone_after image k = let whole : k - 0 ≡ k = omega arith in ap (λ (n : ℕ). gone n 0 (fresh image) []) whole ∙ gone_after k 0 (fresh image)
+alone_after image k = let whole : k - 0 ≡ k = omega arith in ap (λ (n : ℕ). run_of_cycles n 0 (fresh image) []) whole ∙ gone_after k 0 (fresh image)
 
 -- cycles that are built, of a machine that runs
-record Runs (start : Ran) (k : ℕ) : Type 0 where
+record Runs (start : RunState) (k : ℕ) : Type 0 where
   pub built : (j : ℕ) → j < k → is_built (after j start).machine ≡ true
   pub running : (j : ℕ) → j < k → (after j start).machine.halt ≡ None
 
 -- they are part of the run
-run_after : (start : Ran) (limit k : ℕ) → k ≤ limit → Runs start k → run_on limit start ≡ run_on (limit - k) (after k start)
-run_after start limit zero within r = let whole : limit ≡ limit - zero = omega arith in ap (λ (n : ℕ). run_on n start) whole
+run_after : (start : RunState) (limit k : ℕ) → k ≤ limit → Runs start k → bounded_run limit start ≡ bounded_run (limit - k) (after k start)
+run_after start limit zero within r = let whole : limit ≡ limit - zero = omega arith in ap (λ (n : ℕ). bounded_run n start) whole
 run_after start limit (suc k) within r =
     let fewer : Runs start k = record { built = λ j h. r.built j (omega arith); running = λ j h. r.running j (omega arith) } in
     let one : limit - k ≡ suc (limit - suc k) = omega arith in
-    let on : goes_on (after k start).machine ≡ true = goes (after k start).machine (r.running k (omega arith)) (r.built k (omega arith)) in
-    run_after start limit k (omega arith) fewer ∙ (ap (λ (n : ℕ). run_on n (after k start)) one ∙ on_by (limit - suc k) (after k start) true on)
+    let on : can_continue (after k start).machine ≡ true = goes (after k start).machine (r.running k (omega arith)) (r.built k (omega arith)) in
+    run_after start limit k (omega arith) fewer ∙ (ap (λ (n : ℕ). bounded_run n (after k start)) one ∙ on_by (limit - suc k) (after k start) true on)
 
 -- a cycle that is built counts
 counts_place : (m : Machine) (word : ℕ) (place : Place) → (store_cycle m word place).next.cpu.run ≡ (m.cpu.run + 1) % 2 ^ 64
@@ -70,34 +70,34 @@ counts_by m (Jump target link) h = refl
 counts_by m (Store pa word mask) h = counts_place m word (place_at pa)
 counts_by m NoStep h = cc
 
-run_count : (start : Ran) (k : ℕ) → start.machine.cpu.run ≡ 0 → k < 2 ^ 64 → Runs start k → (after k start).machine.cpu.run ≡ k
+run_count : (start : RunState) (k : ℕ) → start.machine.cpu.run ≡ 0 → k < 2 ^ 64 → Runs start k → (after k start).machine.cpu.run ≡ k
 run_count start zero none small r = none
 run_count start (suc k) none small r =
     let fewer : Runs start k = record { built = λ j h. r.built j (omega arith); running = λ j h. r.running j (omega arith) } in
     let before : (after k start).machine.cpu.run ≡ k = run_count start k none (omega arith) fewer in
     let is = cycled_is (after k start) (after k start).machine.halt (r.running k (omega arith)) in
     let one : (cycle (after k start).machine).next.cpu.run ≡ ((after k start).machine.cpu.run + 1) % 2 ^ 64 = counts_by (after k start).machine (step_of (after k start).machine.cpu (after k start).machine.local) (r.built k (omega arith)) in
-    ap (λ (q : Ran). q.machine.cpu.run) is ∙ (one ∙ (ap (λ (n : ℕ). (n + 1) % 2 ^ 64) before ∙ omega arith))
+    ap (λ (q : RunState). q.machine.cpu.run) is ∙ (one ∙ (ap (λ (n : ℕ). (n + 1) % 2 ^ 64) before ∙ omega arith))
 
 -- a run that is the program's own after k cycles
-transcript_halted : (ran : Ran) (k value : ℕ) → ran.machine.halt ≡ Some value → ran.machine.cpu.run ≡ k → transcript_at ran ≡ marked Console ran.bytes ++ marked Report (end_lines k k (length ran.bytes) value)
+transcript_halted : (ran : RunState) (k value : ℕ) → ran.machine.halt ≡ Some value → ran.machine.cpu.run ≡ k → transcript_at ran ≡ for_outlet Console ran.bytes ++ for_outlet Report (end_lines k k (length ran.bytes) value)
 transcript_halted ran k value halted count =
-    ap (λ (o : Option ℕ). marked Console ran.bytes ++ marked Report (end_lines_at ran o)) halted
-    ∙ ap (λ (r : ℕ). marked Console ran.bytes ++ marked Report (end_lines r r (length ran.bytes) value)) count
+    ap (λ (o : Option ℕ). for_outlet Console ran.bytes ++ for_outlet Report (end_lines_at ran o)) halted
+    ∙ ap (λ (r : ℕ). for_outlet Console ran.bytes ++ for_outlet Report (end_lines r r (length ran.bytes) value)) count
 
-transcript_stopped : (ran : Ran) → ran.machine.halt ≡ None → transcript_at ran ≡ marked Console ran.bytes
+transcript_stopped : (ran : RunState) → ran.machine.halt ≡ None → transcript_at ran ≡ for_outlet Console ran.bytes
 transcript_stopped ran running =
-    ap (λ (o : Option ℕ). marked Console ran.bytes ++ marked Report (end_lines_at ran o)) running ∙ append-nil (marked Console ran.bytes)
+    ap (λ (o : Option ℕ). for_outlet Console ran.bytes ++ for_outlet Report (end_lines_at ran o)) running ∙ append-nil (for_outlet Console ran.bytes)
 
 -- an execution ends with this status and this transcript
 pub record EndsWith (image : MemoryImage) (limit : ℕ) (status : Status) (transcript : List (Outlet × ℕ)) : Type 0 where
-  pub status_is : status_at (run_from (started_image image) limit).machine.halt ≡ status
-  pub transcript_is : transcript_at (run_from (started_image image) limit) ≡ transcript
+  pub status_is : status_at (run_within (started_image image) limit).machine.halt ≡ status
+  pub transcript_is : transcript_at (run_within (started_image image) limit) ≡ transcript
 
 runs_of : (image : MemoryImage) (k : ℕ) → ((j : ℕ) → j < k → is_built (alone image j).machine ≡ true) → ((j : ℕ) → j < k → (alone image j).machine.halt ≡ None) → Runs (fresh image) k
 runs_of image k built running = record {
-  built = λ j b. subst (λ (q : Ran). is_built q.machine ≡ true) (alone_after image j) (built j b);
-  running = λ j b. subst (λ (q : Ran). q.machine.halt ≡ None) (alone_after image j) (running j b);
+  built = λ j b. subst (λ (q : RunState). is_built q.machine ≡ true) (alone_after image j) (built j b);
+  running = λ j b. subst (λ (q : RunState). q.machine.halt ≡ None) (alone_after image j) (running j b);
 }
 
 -- where a program halts, its run ends so
@@ -105,18 +105,18 @@ pub halts_end : (image : MemoryImage) (limit k value : ℕ) → limit < 2 ^ 64 �
 halts_end image limit k value small h =
     let runs = runs_of image k h.built h.running in
     let same = alone_after image k in
-    let halted : (after k (fresh image)).machine.halt ≡ Some value = subst (λ (q : Ran). q.machine.halt ≡ Some value) same h.halted in
-    let end : run_from (started_image image) limit ≡ after k (fresh image) = run_after (fresh image) limit k h.within runs ∙ stay (limit - k) (after k (fresh image)) (over (after k (fresh image)).machine (ap is_some halted)) in
+    let halted : (after k (fresh image)).machine.halt ≡ Some value = subst (λ (q : RunState). q.machine.halt ≡ Some value) same h.halted in
+    let end : run_within (started_image image) limit ≡ after k (fresh image) = run_after (fresh image) limit k h.within runs ∙ stay (limit - k) (after k (fresh image)) (over (after k (fresh image)).machine (ap is_some halted)) in
     let below : k < 2 ^ 64 = omega (arith, h.within) in
-    let count : (alone image k).machine.cpu.run ≡ k = ap (λ (q : Ran). q.machine.cpu.run) same ∙ run_count (fresh image) k refl below runs in
+    let count : (alone image k).machine.cpu.run ≡ k = ap (λ (q : RunState). q.machine.cpu.run) same ∙ run_count (fresh image) k refl below runs in
     record {
-      status_is = ap (λ (q : Ran). status_at q.machine.halt) end ∙ ap status_at halted;
+      status_is = ap (λ (q : RunState). status_at q.machine.halt) end ∙ ap status_at halted;
       transcript_is = ap transcript_at (end ∙ sym same) ∙ transcript_halted (alone image k) k value h.halted count;
     }
 
-stays_by : (image : MemoryImage) (limit k : ℕ) → (is_built (alone image k).machine ≡ false) ⊎ (k ≡ limit) → run_on (limit - k) (after k (fresh image)) ≡ after k (fresh image)
-stays_by image limit k (inl none) = stay (limit - k) (after k (fresh image)) (stuck (after k (fresh image)).machine (subst (λ (q : Ran). is_built q.machine ≡ false) (alone_after image k) none))
-stays_by image limit k (inr all) = let nothing : limit - k ≡ 0 = omega arith in ap (λ (n : ℕ). run_on n (after k (fresh image))) nothing
+stays_by : (image : MemoryImage) (limit k : ℕ) → (is_built (alone image k).machine ≡ false) ⊎ (k ≡ limit) → bounded_run (limit - k) (after k (fresh image)) ≡ after k (fresh image)
+stays_by image limit k (inl none) = stay (limit - k) (after k (fresh image)) (stuck (after k (fresh image)).machine (subst (λ (q : RunState). is_built q.machine ≡ false) (alone_after image k) none))
+stays_by image limit k (inr all) = let nothing : limit - k ≡ 0 = omega arith in ap (λ (n : ℕ). bounded_run n (after k (fresh image))) nothing
 
 -- where a program stops, its run ends so
 pub stops_end : (image : MemoryImage) (limit k : ℕ) → Stops image limit k → EndsWith image limit (NotBuilt 1) (stop_transcript image k)
@@ -124,17 +124,17 @@ stops_end image limit k h =
     let runs = runs_of image k h.built (λ j b. h.running j (omega arith)) in
     let same = alone_after image k in
     let here : (alone image k).machine.halt ≡ None = h.running k (omega arith) in
-    let end : run_from (started_image image) limit ≡ after k (fresh image) = run_after (fresh image) limit k h.within runs ∙ stays_by image limit k h.stopped in
+    let end : run_within (started_image image) limit ≡ after k (fresh image) = run_after (fresh image) limit k h.within runs ∙ stays_by image limit k h.stopped in
     record {
-      status_is = ap (λ (q : Ran). status_at q.machine.halt) (end ∙ sym same) ∙ ap status_at here;
+      status_is = ap (λ (q : RunState). status_at q.machine.halt) (end ∙ sym same) ∙ ap status_at here;
       transcript_is = ap transcript_at (end ∙ sym same) ∙ transcript_stopped (alone image k) here;
     }
 
 -- an answer to an execution is one to its end
-pub ends_with : {image : MemoryImage} {limit : ℕ} {status : Status} {transcript : List (Outlet × ℕ)} (answer : Status) (console console' report report' : Option (List ℕ)) → EndsWith image limit status transcript → Ends (status_at (run_from (started_image image) limit).machine.halt) (transcript_at (run_from (started_image image) limit)) answer console console' report report' → Ends status transcript answer console console' report report'
+pub ends_with : {image : MemoryImage} {limit : ℕ} {status : Status} {transcript : List (Outlet × ℕ)} (answer : Status) (console console' report report' : Option (List ℕ)) → EndsWith image limit status transcript → Ends (status_at (run_within (started_image image) limit).machine.halt) (transcript_at (run_within (started_image image) limit)) answer console console' report report' → Ends status transcript answer console console' report report'
 ends_with {image} {limit} {status} {transcript} answer console console' report report' e h =
     subst (λ (t : List (Outlet × ℕ)). Ends status t answer console console' report report') e.transcript_is
-    (subst (λ (st : Status). Ends st (transcript_at (run_from (started_image image) limit)) answer console console' report report') e.status_is h)
+    (subst (λ (st : Status). Ends st (transcript_at (run_within (started_image image) limit)) answer console console' report report') e.status_is h)
 
 -- the limit is small
 pub limit_small : (n : ℕ) → cycle_limit n < 2 ^ 64
@@ -195,18 +195,18 @@ decides_by image limit (suc n) k e r =
 decides : (image : MemoryImage) (limit : ℕ) → HaltsSomewhere image limit ⊎ StopsSomewhere image limit
 decides image limit = decides_by image limit limit 0 (omega arith) (going_none image limit)
 
-halts_by : (image : MemoryImage) (limit : ℕ) → status_at (run_from (started_image image) limit).machine.halt ≡ Done → HaltsSomewhere image limit ⊎ StopsSomewhere image limit → HaltsSomewhere image limit
+halts_by : (image : MemoryImage) (limit : ℕ) → status_at (run_within (started_image image) limit).machine.halt ≡ Done → HaltsSomewhere image limit ⊎ StopsSomewhere image limit → HaltsSomewhere image limit
 halts_by image limit h (inl w) = w
 halts_by image limit h (inr w) = absurd (let e = (stops_end image limit w.cycles w.stops).status_is in cc)
 
 -- where a run ends as one that halts, the program halts
-pub halts_only : (image : MemoryImage) (limit : ℕ) → status_at (run_from (started_image image) limit).machine.halt ≡ Done → HaltsSomewhere image limit
+pub halts_only : (image : MemoryImage) (limit : ℕ) → status_at (run_within (started_image image) limit).machine.halt ≡ Done → HaltsSomewhere image limit
 halts_only image limit h = halts_by image limit h (decides image limit)
 
-stops_by : (image : MemoryImage) (limit : ℕ) → limit < 2 ^ 64 → status_at (run_from (started_image image) limit).machine.halt ≡ NotBuilt 1 → HaltsSomewhere image limit ⊎ StopsSomewhere image limit → StopsSomewhere image limit
+stops_by : (image : MemoryImage) (limit : ℕ) → limit < 2 ^ 64 → status_at (run_within (started_image image) limit).machine.halt ≡ NotBuilt 1 → HaltsSomewhere image limit ⊎ StopsSomewhere image limit → StopsSomewhere image limit
 stops_by image limit small h (inr w) = w
 stops_by image limit small h (inl w) = absurd (let e = (halts_end image limit w.cycles w.value small w.halts).status_is in cc)
 
 -- where a run ends as one that stops, the program stops
-pub stops_only : (image : MemoryImage) (limit : ℕ) → limit < 2 ^ 64 → status_at (run_from (started_image image) limit).machine.halt ≡ NotBuilt 1 → StopsSomewhere image limit
+pub stops_only : (image : MemoryImage) (limit : ℕ) → limit < 2 ^ 64 → status_at (run_within (started_image image) limit).machine.halt ≡ NotBuilt 1 → StopsSomewhere image limit
 stops_only image limit small h = stops_by image limit small h (decides image limit)

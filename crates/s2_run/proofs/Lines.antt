@@ -1,6 +1,6 @@
 -- Reading the first line of an input, a byte at a time.
 use Rattle.std.proofs.Common.{◌≡◌, ℕ, ◌+◌, ◌≤◌, Bool, List, [], ◌∷◌, ◌++◌, take, drop, length, append_assoc, append-nil, length-append, refl, sym, ap, arith, ◌∙◌, subst, cond}
-use Rattle.std.specs.Prelude.{Some, None, Ok, ◌^◌, decimal}
+use Rattle.std.specs.Prelude.{Some, None, Ok, decimal}
 use Rattle.std.specs.declared.option.Option.{Option}
 use Rattle.std.proofs.lemmas.Grind.{common_steps}
 use Rattle.std.proofs.Math.Seq.{drop-append-add, drop-append_seam, take-append_seam}
@@ -8,7 +8,8 @@ use Rattle.std.proofs.lemmas.Bool.{eq-eqb}
 use Rattle.std.proofs.lemmas.Fmt.{decimal_injective}
 use Rattle.s2_io.specs.declared.traits.Failed.{Failed}
 use Rattle.s2_io.specs.Sources.{dropped}
-use Rattle.s2_run.specs.Sending.{next_of, byte_count}
+use Rattle.s2_run.specs.declared.limits.TheConstants.{TICK_LIMIT}
+use Rattle.s2_run.specs.SentPieces.{next_of, byte_count}
 use Rattle.s2_run.specs.Script.{line_of, first_line, first_taken, IsTicks}
 use Rattle.s2_run.specs.Endings.{TakesLine}
 
@@ -48,8 +49,8 @@ no_more_at_end [] h = refl
 no_more_at_end (x ∷ xs) h = cc
 
 -- what is left after the line and one byte more
-left_after : (input line rest : List ℕ) → line ++ rest ≡ input → first_taken input ≡ length line + 1 → Some (drop 1 rest) ≡ Some (drop (first_taken input) input)
-left_after input line rest whole count = rw (count, ← whole, drop-append-add line rest 1)
+later_deliveries : (input line rest : List ℕ) → line ++ rest ≡ input → first_taken input ≡ length line + 1 → Some (drop 1 rest) ≡ Some (drop (first_taken input) input)
+later_deliveries input line rest whole count = rw (count, ← whole, drop-append-add line rest 1)
 
 ended : (input line rest : List ℕ) (left' : Option (List ℕ)) → line ++ rest ≡ input → line_of input ≡ line ++ line_of rest → line_of rest ≡ [] → length line ≤ 128 → left' ≡ Some (drop 1 rest) → IsFirstLine input line left'
 ended input line rest left' whole ahead none short left_is =
@@ -58,7 +59,7 @@ ended input line rest left' whole ahead none short left_is =
     let count : first_taken input ≡ length line + 1 = omega arith in
     record {
       line_is = sym (ap (take 128) all ∙ take_all line 128 short);
-      left_is = left_is ∙ left_after input line rest whole count;
+      left_is = left_is ∙ later_deliveries input line rest whole count;
     }
 
 -- what is left after a call that took the next byte, or none at the end
@@ -84,7 +85,7 @@ finish_full {input} {line} {left} {left'} next r h full step =
     let front : take 128 (line ++ line_of r.rest) ≡ line = subst (λ (n : ℕ). take n (line ++ line_of r.rest) ≡ line) full (take-append_seam line (line_of r.rest)) in
     record {
       line_is = sym (ap (take 128) r.ahead ∙ front);
-      left_is = after_byte left left' r.rest next r.left_is h step ∙ left_after input line r.rest r.whole count;
+      left_is = after_byte left left' r.rest next r.left_is h step ∙ later_deliveries input line r.rest r.whole count;
     }
 
 go_on : (input line rest : List ℕ) (b : ℕ) (left' : Option (List ℕ)) → line ++ rest ≡ input → line_of input ≡ line ++ line_of rest → Some b ≡ next_of rest → (b ≡ 10 → ⊥) → left' ≡ Some (drop 1 rest) → ReadSoFar input (line ++ b ∷ []) left'
@@ -125,6 +126,6 @@ tail_same a b c d xs ys h = cc
 pub same_ticks : (line : List ℕ) (m n : ℕ) → IsTicks line m → IsTicks line n → m ≡ n
 same_ticks line m n a b =
     let same : decimal m ≡ decimal n = tail_same 116 32 55 32 (decimal m) (decimal n) (sym a.text ∙ b.text) in
-    let low : m ≤ 2 ^ 40 = a.bounded in
-    let low' : n ≤ 2 ^ 40 = b.bounded in
+    let low : m ≤ TICK_LIMIT = a.bounded in
+    let low' : n ≤ TICK_LIMIT = b.bounded in
     decimal_injective m n (omega arith) (omega arith) same

@@ -5,17 +5,18 @@ use Rattle.std.specs.declared.option.Option.{Option}
 use Rattle.s2_machine.specs.Machine.{Machine}
 use Rattle.s2_elf.specs.Files.{is_readable}
 use Rattle.s2_elf.specs.Images.{image_of}
+use Rattle.s2_run.specs.declared.limits.TheConstants.{FILE_LIMIT}
 use Rattle.s2_run.specs.Transcript.{Outlet}
 use Rattle.s2_run.specs.Script.{first_line, IsTicks}
-use Rattle.s2_run.specs.Execution.{run_from, cycle_limit, status_at, started_image}
+use Rattle.s2_run.specs.Execution.{run_within, cycle_limit, status_at, started_image}
 use Rattle.s2_run.specs.Endings.{Ends, IsRunAnswer, IsScriptAnswer, IsFileAnswer, IsSizeAnswer}
-use Rattle.s2_run.specs.Reasons.{file_limit, ScriptOnly, FileOnly, RunOnly, ComesOnly, IsAccepted, RunsToStop, HasOtherLine}
+use Rattle.s2_run.specs.Reasons.{ScriptOnly, FileOnly, RunOnly, ComesOnly, IsAccepted, RunsToStop, HasOtherLine}
 use Rattle.s2_run.specs.declared.status.Status.{Status}
 use Rattle.s2_run.specs.declared.status.Status.TheVariants.{Done, ReadFault, WriteFault, TooBig, Memory, NotBuilt}
 use Rattle.s2_run.proofs.Executions.{halts_only, stops_only, limit_small}
 
 -- an execution that was run
-pub script_only : (m : Machine) (input : List ℕ) (answer : Status) (n : ℕ) (transcript : List (Outlet × ℕ)) (console console' report report' : Option (List ℕ)) → IsTicks (first_line input) n → IsRunAnswer answer → Ends (status_at (run_from m (cycle_limit n)).machine.halt) transcript answer console console' report report' → ScriptOnly m input answer
+pub script_only : (m : Machine) (input : List ℕ) (answer : Status) (n : ℕ) (transcript : List (Outlet × ℕ)) (console console' report report' : Option (List ℕ)) → IsTicks (first_line input) n → IsRunAnswer answer → Ends (status_at (run_within m (cycle_limit n)).machine.halt) transcript answer console console' report report' → ScriptOnly m input answer
 script_only m input Done n transcript console console' report report' ticks a h = (n, ticks, sym h.0)
 script_only m input (NotBuilt line) n transcript console console' report report' ticks a h = inl (n, ticks, sym h.0 ∙ ap NotBuilt a)
 script_only m input WriteFault n transcript console console' report report' ticks a h = tt
@@ -32,12 +33,12 @@ file_only bytes input m ReadFault same readable a h = tt
 file_only bytes input m (TooBig limit) same readable a h = tt
 file_only bytes input m Memory same readable a h = tt
 
-not_built_only : (bytes input : List ℕ) (line : ℕ) → length bytes ≤ file_limit → FileOnly bytes input (NotBuilt line) → RunOnly bytes input (NotBuilt line)
+not_built_only : (bytes input : List ℕ) (line : ℕ) → length bytes ≤ FILE_LIMIT → FileOnly bytes input (NotBuilt line) → RunOnly bytes input (NotBuilt line)
 not_built_only bytes input line fits (inl h) = inl (h.0, record { fits = fits; unreadable = h.1 })
 not_built_only bytes input line fits (inr h) = inr (h.0, record { fits = fits; readable = h.1 }, h.2)
 
 -- a file's bytes that the desk gave
-pub run_only : (bytes input : List ℕ) (answer : Status) → length bytes ≤ file_limit → IsFileAnswer answer → FileOnly bytes input answer → RunOnly bytes input answer
+pub run_only : (bytes input : List ℕ) (answer : Status) → length bytes ≤ FILE_LIMIT → IsFileAnswer answer → FileOnly bytes input answer → RunOnly bytes input answer
 run_only bytes input Done fits a h = (record { fits = fits; readable = h.0 }, h.1)
 run_only bytes input (NotBuilt line) fits a h = not_built_only bytes input line fits h
 run_only bytes input WriteFault fits a h = tt
@@ -46,7 +47,7 @@ run_only bytes input (TooBig limit) fits a h = absurd a
 run_only bytes input Memory fits a h = tt
 
 -- a file that is too big
-pub size_only : (file input : List ℕ) (limit : ℕ) (answer : Status) → file_limit < length file → IsSizeAnswer limit answer → RunOnly file input answer
+pub size_only : (file input : List ℕ) (limit : ℕ) (answer : Status) → FILE_LIMIT < length file → IsSizeAnswer limit answer → RunOnly file input answer
 size_only file input limit (TooBig named) above a = above
 size_only file input limit WriteFault above a = tt
 size_only file input limit Done above a = absurd a

@@ -4,7 +4,7 @@ use Rattle.std.specs.declared.option.Option.{Option}
 use Rattle.s2_machine.specs.Machine.{Machine}
 use Rattle.s2_run.specs.Transcript.{Outlet, Written, Untouched}
 use Rattle.s2_run.specs.Script.{first_line, first_taken, IsTicks}
-use Rattle.s2_run.specs.Execution.{run_from, cycle_limit, status_at, transcript_at}
+use Rattle.s2_run.specs.Execution.{run_within, cycle_limit, status_at, transcript_at}
 use Rattle.s2_run.specs.declared.status.Status.{Status}
 use Rattle.s2_run.specs.declared.status.Status.TheVariants.{Done, ReadFault, WriteFault, TooBig, Memory, NotBuilt}
 
@@ -28,7 +28,7 @@ IsRunAnswer Memory = ⊥
 
 -- a machine at its start, under an input: its execution where the first line is one of ticks
 pub record RunsScript (m : Machine) (input : List ℕ) (answer : Status) (console console' report report' : Option (List ℕ)) : Type 0 where
-  pub ticks : (n : ℕ) → IsTicks (first_line input) n → Ends (status_at (run_from m (cycle_limit n)).machine.halt) (transcript_at (run_from m (cycle_limit n))) answer console console' report report'
+  pub ticks : (n : ℕ) → IsTicks (first_line input) n → Ends (status_at (run_within m (cycle_limit n)).machine.halt) (transcript_at (run_within m (cycle_limit n))) answer console console' report report'
   pub refused : ((n : ℕ) → ¬ IsTicks (first_line input) n) → Ends (NotBuilt 1) [] answer console console' report report'
 
 -- what a run of a script answers: it asks for no memory

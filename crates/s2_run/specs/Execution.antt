@@ -3,9 +3,10 @@ use Rattle.std.specs.Prelude.{ℕ, zero, suc, ◌≡◌, ◌<◌, ◌≤◌, ◌
 use Rattle.std.specs.declared.option.Option.{Option}
 use Rattle.s2_machine.specs.Machine.{Machine, started}
 use Rattle.s2_machine.specs.Cycle.{is_built}
-use Rattle.s2_machine.specs.Going.{Ran, cycled, solo}
+use Rattle.s2_machine.specs.MachineRun.{RunState, after_cycle, single_run}
 use Rattle.s2_elf.specs.MemoryImage.{MemoryImage}
-use Rattle.s2_run.specs.Transcript.{Outlet, Console, Report, marked}
+use Rattle.s2_run.specs.declared.limits.TheConstants.{FIRST_REFRESH}
+use Rattle.s2_run.specs.Transcript.{Outlet, Console, Report, for_outlet}
 use Rattle.s2_run.specs.ReportText.{end_lines}
 use Rattle.s2_run.specs.declared.status.Status.{Status}
 use Rattle.s2_run.specs.declared.status.Status.TheVariants.{Done, NotBuilt}
@@ -15,8 +16,8 @@ abbrev pub started_image : MemoryImage → Machine
 started_image image = started image.entry image.local image.global
 
 -- a program alone, without deliveries, after so many cycles: its machine and its console bytes
-abbrev pub alone : MemoryImage → ℕ → Ran
-alone image k = solo image.entry image.local image.global [] k
+abbrev pub alone : MemoryImage → ℕ → RunState
+alone image k = single_run image.entry image.local image.global [] k
 
 -- the k-th cycle of a program is its first that halts, with this value, and every cycle to it is built;
 -- k is at most the limit
@@ -36,37 +37,37 @@ pub record Stops (image : MemoryImage) (limit k : ℕ) : Type 0 where
 
 -- the transcript of a program that halts with the k-th cycle: its console bytes, and then the end lines
 abbrev pub halt_transcript : MemoryImage → ℕ → ℕ → List (Outlet × ℕ)
-halt_transcript image k value = marked Console (alone image k).bytes ++ marked Report (end_lines k k (length (alone image k).bytes) value)
+halt_transcript image k value = for_outlet Console (alone image k).bytes ++ for_outlet Report (end_lines k k (length (alone image k).bytes) value)
 
 -- the transcript of a program that stops after k cycles: its console bytes alone
 abbrev pub stop_transcript : MemoryImage → ℕ → List (Outlet × ℕ)
-stop_transcript image k = marked Console (alone image k).bytes
+stop_transcript image k = for_outlet Console (alone image k).bytes
 
--- how many cycles are run for so many ticks: one for each tick, but at most 254, before the first
--- firing that a refresh takes
+-- how many cycles are run for so many ticks: one for each tick, but none from the first firing on that a
+-- refresh takes
 abbrev pub cycle_limit : ℕ → ℕ
-cycle_limit ticks = min ticks 254
+cycle_limit ticks = min ticks FIRST_REFRESH
 
 -- where a machine comes to in at most n cycles: at its halt, before a cycle that is not built, or after
 -- the n-th
-abbrev pub goes_on : Machine → Bool
-goes_on m = is_none m.halt && is_built m
+abbrev pub can_continue : Machine → Bool
+can_continue m = is_none m.halt && is_built m
 
-abbrev pub run_on : ℕ → Ran → Ran
-run_on zero ran = ran
-run_on (suc n) ran = if goes_on ran.machine then run_on n (cycled ran) else ran
+abbrev pub bounded_run : ℕ → RunState → RunState
+bounded_run zero ran = ran
+bounded_run (suc n) ran = if can_continue ran.machine then bounded_run n (after_cycle ran) else ran
 
-abbrev pub run_from : Machine → ℕ → Ran
-run_from m n = run_on n (record { machine = m; bytes = [] })
+abbrev pub run_within : Machine → ℕ → RunState
+run_within m n = bounded_run n (record { machine = m; bytes = [] })
 
 -- the status and the transcript of an execution that came to this
 abbrev pub status_at : Option ℕ → Status
 status_at (Some value) = Done
 status_at None = NotBuilt 1
 
-abbrev pub end_lines_at : Ran → Option ℕ → List ℕ
+abbrev pub end_lines_at : RunState → Option ℕ → List ℕ
 end_lines_at ran (Some value) = end_lines ran.machine.cpu.run ran.machine.cpu.run (length ran.bytes) value
 end_lines_at ran None = []
 
-abbrev pub transcript_at : Ran → List (Outlet × ℕ)
-transcript_at ran = marked Console ran.bytes ++ marked Report (end_lines_at ran ran.machine.halt)
+abbrev pub transcript_at : RunState → List (Outlet × ℕ)
+transcript_at ran = for_outlet Console ran.bytes ++ for_outlet Report (end_lines_at ran ran.machine.halt)

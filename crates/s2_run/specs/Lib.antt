@@ -5,10 +5,10 @@ pub use Rattle.s2_machine.specs.Device
 pub use Rattle.s2_machine.specs.Machine
 pub use Rattle.s2_decode.specs.Table
 pub use Rattle.s2_decode.specs.Properness
-pub use Rattle.s2_machine.specs.Stepping
-pub use Rattle.s2_machine.specs.Moving
+pub use Rattle.s2_machine.specs.CycleCases
+pub use Rattle.s2_machine.specs.WriteBack
 pub use Rattle.s2_machine.specs.Cycle
-pub use Rattle.s2_machine.specs.Going
+pub use Rattle.s2_machine.specs.MachineRun
 pub use Rattle.s2_io.specs.Counts
 pub use Rattle.s2_io.specs.Sources
 pub use Rattle.s2_io.specs.Sinks
@@ -16,9 +16,9 @@ pub use Rattle.s2_io.specs.Desks
 pub use Rattle.s2_elf.specs.MemoryImage
 pub use Rattle.s2_elf.specs.Files
 pub use Rattle.s2_elf.specs.Images
-pub use Rattle.s2_elf.specs.Answers
-pub mod Sound
-pub mod Sending
+pub use Rattle.s2_elf.specs.LoadResult
+pub mod StepRanges
+pub mod SentPieces
 pub mod Statuses
 pub mod Transcript
 pub mod ReportText

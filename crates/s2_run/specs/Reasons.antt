@@ -5,14 +5,11 @@ use Rattle.s2_io.specs.Counts.{Rose}
 use Rattle.s2_elf.specs.Files.{is_readable}
 use Rattle.s2_elf.specs.Images.{image_of}
 use Rattle.s2_machine.specs.Machine.{Machine}
+use Rattle.s2_run.specs.declared.limits.TheConstants.{FILE_LIMIT}
 use Rattle.s2_run.specs.Script.{first_line, run_name, IsTicks}
-use Rattle.s2_run.specs.Execution.{run_from, cycle_limit, status_at, started_image, Halts, Stops}
+use Rattle.s2_run.specs.Execution.{run_within, cycle_limit, status_at, started_image, Halts, Stops}
 use Rattle.s2_run.specs.declared.status.Status.{Status}
 use Rattle.s2_run.specs.declared.status.Status.TheVariants.{Done, ReadFault, WriteFault, TooBig, Memory, NotBuilt}
-
--- the most bytes of a file
-abbrev pub file_limit : ℕ
-file_limit = 4194304
 
 -- the words name a file that the desk holds
 pub record NamesFile (words : List (List ℕ)) (held : List ℕ → Option (List ℕ)) (name file : List ℕ) : Type 0 where
@@ -21,12 +18,12 @@ pub record NamesFile (words : List (List ℕ)) (held : List ℕ → Option (List
 
 -- a file is small enough, and one that is read
 pub record IsAccepted (file : List ℕ) : Type 0 where
-  pub fits : length file ≤ file_limit
+  pub fits : length file ≤ FILE_LIMIT
   pub readable : is_readable file ≡ true
 
 -- a file is small enough, and not one that is read
 pub record IsRefused (file : List ℕ) : Type 0 where
-  pub fits : length file ≤ file_limit
+  pub fits : length file ≤ FILE_LIMIT
   pub unreadable : is_readable file ≡ false
 
 -- an accepted file and a first line of ticks, under which the program halts
@@ -53,8 +50,8 @@ pub record HasOtherLine (file input : List ℕ) : Type 0 where
 
 -- where an execution's answer comes: a line of ticks, whose execution ends so, or another line
 abbrev pub ScriptOnly : Machine → List ℕ → Status → Type 0
-ScriptOnly m input Done = (n : ℕ) × IsTicks (first_line input) n × (status_at (run_from m (cycle_limit n)).machine.halt ≡ Done)
-ScriptOnly m input (NotBuilt line) = ((n : ℕ) × IsTicks (first_line input) n × (status_at (run_from m (cycle_limit n)).machine.halt ≡ NotBuilt 1)) ⊎ ((n : ℕ) → ¬ IsTicks (first_line input) n)
+ScriptOnly m input Done = (n : ℕ) × IsTicks (first_line input) n × (status_at (run_within m (cycle_limit n)).machine.halt ≡ Done)
+ScriptOnly m input (NotBuilt line) = ((n : ℕ) × IsTicks (first_line input) n × (status_at (run_within m (cycle_limit n)).machine.halt ≡ NotBuilt 1)) ⊎ ((n : ℕ) → ¬ IsTicks (first_line input) n)
 ScriptOnly m input ReadFault = Unit {0}
 ScriptOnly m input WriteFault = Unit {0}
 ScriptOnly m input (TooBig limit) = Unit {0}
@@ -73,7 +70,7 @@ FileOnly bytes input Memory = Unit {0}
 abbrev pub RunOnly : List ℕ → List ℕ → Status → Type 0
 RunOnly file input Done = IsAccepted file × ScriptOnly (started_image (image_of file)) input Done
 RunOnly file input (NotBuilt line) = ((line ≡ 0) × IsRefused file) ⊎ ((line ≡ 1) × IsAccepted file × ScriptOnly (started_image (image_of file)) input (NotBuilt 1))
-RunOnly file input (TooBig limit) = file_limit < length file
+RunOnly file input (TooBig limit) = FILE_LIMIT < length file
 RunOnly file input ReadFault = Unit {0}
 RunOnly file input WriteFault = Unit {0}
 RunOnly file input Memory = Unit {0}
@@ -82,26 +79,26 @@ RunOnly file input Memory = Unit {0}
 abbrev pub ComesOnly : List ℕ → List ℕ → Status → Type 0
 ComesOnly file input Done = RunsToHalt file input
 ComesOnly file input (NotBuilt line) = ((line ≡ 0) × IsRefused file) ⊎ ((line ≡ 1) × (RunsToStop file input ⊎ HasOtherLine file input))
-ComesOnly file input (TooBig limit) = file_limit < length file
+ComesOnly file input (TooBig limit) = FILE_LIMIT < length file
 ComesOnly file input ReadFault = Unit {0}
 ComesOnly file input WriteFault = Unit {0}
 ComesOnly file input Memory = Unit {0}
 
 -- a read failed: of the file, before the input was touched, or of the input
-abbrev pub ReadCause : Option (List ℕ) → (List ℕ → ℕ) → (List ℕ → ℕ) → Option (List ℕ) → Option (List ℕ) → ℕ → ℕ → Type 0
-ReadCause (Some name) desk desk' left left' faults faults' = (Rose (desk name) (desk' name) × (left' ≡ left)) ⊎ Rose faults faults'
-ReadCause None desk desk' left left' faults faults' = ⊥
+abbrev pub ReadFaultCause : Option (List ℕ) → (List ℕ → ℕ) → (List ℕ → ℕ) → Option (List ℕ) → Option (List ℕ) → ℕ → ℕ → Type 0
+ReadFaultCause (Some name) desk desk' left left' faults faults' = (Rose (desk name) (desk' name) × (left' ≡ left)) ⊎ Rose faults faults'
+ReadFaultCause None desk desk' left left' faults faults' = ⊥
 
 -- a file is too big: the answer names the limit, and the desk's count of such files rose
-abbrev pub SizeCause : Status → ℕ → ℕ → Type 0
-SizeCause (TooBig limit) large large' = (limit ≡ file_limit) × Rose large large'
-SizeCause Done large large' = Unit {0}
-SizeCause ReadFault large large' = Unit {0}
-SizeCause WriteFault large large' = Unit {0}
-SizeCause Memory large large' = Unit {0}
-SizeCause (NotBuilt line) large large' = Unit {0}
+abbrev pub TooBigCause : Status → ℕ → ℕ → Type 0
+TooBigCause (TooBig limit) large large' = (limit ≡ FILE_LIMIT) × Rose large large'
+TooBigCause Done large large' = Unit {0}
+TooBigCause ReadFault large large' = Unit {0}
+TooBigCause WriteFault large large' = Unit {0}
+TooBigCause Memory large large' = Unit {0}
+TooBigCause (NotBuilt line) large large' = Unit {0}
 
 -- a write failed only where a count of faults or of empty takes rose, of the console or of the report
-abbrev pub WriteCause : Status → ℕ → ℕ → ℕ → ℕ → ℕ → ℕ → ℕ → ℕ → Type 0
-WriteCause answer faults faults' empty_takes empty_takes' report_faults report_faults' report_empty_takes report_empty_takes' =
+abbrev pub WriteFaultCause : Status → ℕ → ℕ → ℕ → ℕ → ℕ → ℕ → ℕ → ℕ → Type 0
+WriteFaultCause answer faults faults' empty_takes empty_takes' report_faults report_faults' report_empty_takes report_empty_takes' =
     answer ≡ WriteFault → ((Rose faults faults' ⊎ Rose empty_takes empty_takes') ⊎ (Rose report_faults report_faults' ⊎ Rose report_empty_takes report_empty_takes'))

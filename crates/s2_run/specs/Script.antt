@@ -1,6 +1,7 @@
 -- The one line of a script that is run today, and the words of the command.
-use Rattle.std.specs.Prelude.{ℕ, ◌≡◌, ◌+◌, ◌≤◌, ◌^◌, ◌==◌, List, [], ◌∷◌, ◌++◌, codes, decimal, length, min, take, Some, None, if◌then◌else◌}
+use Rattle.std.specs.Prelude.{ℕ, ◌≡◌, ◌+◌, ◌≤◌, ◌==◌, List, [], ◌∷◌, ◌++◌, codes, decimal, length, min, take, Some, None, if◌then◌else◌}
 use Rattle.std.specs.declared.option.Option.{Option}
+use Rattle.s2_run.specs.declared.limits.TheConstants.{TICK_LIMIT}
 use Rattle.std.specs.Str.{bytes_eq}
 
 -- the bytes before the first line feed, or all of them
@@ -16,11 +17,11 @@ first_line input = take 128 (line_of input)
 abbrev pub first_taken : List ℕ → ℕ
 first_taken input = min 129 (length (line_of input) + 1)
 
--- the line `t 7 N`: so many ticks of all three processors, from 1 to 2 ^ 40
+-- the line `t 7 N`: so many ticks of all three processors, from 1 to the limit of a run
 pub record IsTicks (line : List ℕ) (n : ℕ) : Type 0 where
   pub text : line ≡ codes "t 7 " ++ decimal n
   pub positive : 1 ≤ n
-  pub bounded : n ≤ 2 ^ 40
+  pub bounded : n ≤ TICK_LIMIT
 
 -- the file's name, where the words are `run NAME`
 abbrev pub run_name : List (List ℕ) → Option (List ℕ)

@@ -9,9 +9,9 @@ pub data Outlet : Type 0 where
   Report : Outlet
 
 -- bytes that go to one outlet
-abbrev pub marked : Outlet → List ℕ → List (Outlet × ℕ)
-marked outlet [] = []
-marked outlet (b ∷ bs) = (outlet, b) ∷ marked outlet bs
+abbrev pub for_outlet : Outlet → List ℕ → List (Outlet × ℕ)
+for_outlet outlet [] = []
+for_outlet outlet (b ∷ bs) = (outlet, b) ∷ for_outlet outlet bs
 
 -- the byte before the others, where it goes to the console, and where it goes to the report
 abbrev pub if_console : Outlet → ℕ → List ℕ → List ℕ

@@ -4,32 +4,28 @@ ghost use Rattle.std.specs.Prelude.{◌≡◌, ◌<◌, ◌⊎◌, ℕ, List, []
 ghost use Rattle.std.specs.declared.option.Option.{Option};
 ghost use Rattle.s2_io.specs.Counts.{Rose};
 ghost use Rattle.s2_io.specs.Sinks.{appended};
-ghost use Rattle.s2_run.specs.Sending.{sent, SinkCause};
+ghost use Rattle.s2_run.specs.declared.limits.TheConstants.{FILE_LIMIT};
+ghost use Rattle.s2_run.specs.SentPieces.{sent, SinkCause};
 ghost use Rattle.s2_run.specs.ReportText.{end_lines};
 ghost use Rattle.s2_run.specs.Script.{first_taken};
-ghost use Rattle.s2_run.specs.Transcript.{Report, marked, Untouched};
+ghost use Rattle.s2_run.specs.Transcript.{Report, for_outlet, Untouched};
 ghost use Rattle.s2_run.specs.ReportText.{too_big_line};
-ghost use Rattle.s2_run.specs.Execution.{run_from, cycle_limit, status_at, transcript_at, started_image};
+ghost use Rattle.s2_run.specs.Execution.{run_within, cycle_limit, status_at, transcript_at, started_image};
 ghost use Rattle.s2_elf.specs.Files.{is_readable};
 ghost use Rattle.s2_elf.specs.Images.{image_of};
 ghost use Rattle.s2_run.specs.Endings.{Ends, IsRunAnswer, IsScriptAnswer, IsFileAnswer, IsSizeAnswer, NamesLine, RunsScript, TakesLine, TakesWhole, TakesNothing, WritesNothing};
-ghost use Rattle.s2_run.specs.Reasons.{file_limit, IsAccepted, IsRefused, ScriptOnly, FileOnly, RunOnly, ReadCause, SizeCause, WriteCause};
+ghost use Rattle.s2_run.specs.Reasons.{IsAccepted, IsRefused, ScriptOnly, FileOnly, RunOnly, ReadFaultCause, TooBigCause, WriteFaultCause};
 
+use crate::cycles::run_cycles;
 use crate::flat::FlatMachine;
+use crate::limits::{FILE_LIMIT, FIRST_REFRESH};
+use crate::output::{Cut, put, put_four};
 use crate::report::{count_line, halt_line};
-use crate::running::run_cycles;
 use crate::script::{read_line, read_ticks};
-use crate::sending::{Cut, put, put_four};
 use crate::status::Status;
 use s2_elf::{ElfFail, read_elf};
 use s2_io::{Desk, DeskFault, Failed, Sink, Source};
 use std::alloc::Global;
-
-/// The most bytes of a file.
-const FILE_LIMIT: usize = 4_194_304;
-
-/// How many cycles are run at most: those before the first firing that a refresh takes.
-const CYCLES: u64 = 254;
 
 /// Writes the end lines of a run that halted after so many cycles, a tick each.
 fn put_end_lines<R: Sink>(report: &mut R, runs: u64, bytes: u64, value: u32) -> Result<(), Cut>
@@ -59,15 +55,15 @@ fn run_ticks<C: Sink, R: Sink>(
     report: &mut R,
 ) -> Status
     requires { machine.old.halt ≡ None }
-    ensures ends { Ends (status_at (run_from machine.old (cycle_limit ticks)).machine.halt)
-        (transcript_at (run_from machine.old (cycle_limit ticks))) result
+    ensures ends { Ends (status_at (run_within machine.old (cycle_limit ticks)).machine.halt)
+        (transcript_at (run_within machine.old (cycle_limit ticks))) result
         (C.taken console.old) (C.taken console.new) (R.taken report.old) (R.taken report.new) }
     ensures answer { IsRunAnswer result }
-    ensures cause { WriteCause result
+    ensures cause { WriteFaultCause result
         (C.faults console.old) (C.faults console.new) (C.empty_takes console.old) (C.empty_takes console.new)
         (R.faults report.old) (R.faults report.new) (R.empty_takes report.old) (R.empty_takes report.new) }
 {
-    let written = match run_cycles(machine, ticks.min(CYCLES), console) {
+    let written = match run_cycles(machine, ticks.min(FIRST_REFRESH), console) {
         Ok(written) => written,
         Err(_) => return Status::WriteFault,
     };
@@ -94,7 +90,7 @@ fn run_script<S: Source, C: Sink, R: Sink>(
     ensures only { (s : List ℕ) → S.left input.old ≡ Some s → ScriptOnly machine.old s result }
     ensures answer { IsScriptAnswer result }
     ensures read { result ≡ Status.ReadFault → Rose (S.faults input.old) (S.faults input.new) }
-    ensures write { WriteCause result
+    ensures write { WriteFaultCause result
         (C.faults console.old) (C.faults console.new) (C.empty_takes console.old) (C.empty_takes console.new)
         (R.faults report.old) (R.faults report.new) (R.empty_takes report.old) (R.empty_takes report.new) }
     ensures unwritten { WritesNothing result
@@ -130,7 +126,7 @@ fn run_file<S: Source, C: Sink, R: Sink>(
     ensures only { (s : List ℕ) → S.left input.old ≡ Some s → FileOnly bytes.now s result }
     ensures answer { IsFileAnswer result }
     ensures read { result ≡ Status.ReadFault → Rose (S.faults input.old) (S.faults input.new) }
-    ensures write { WriteCause result
+    ensures write { WriteFaultCause result
         (C.faults console.old) (C.faults console.new) (C.empty_takes console.old) (C.empty_takes console.new)
         (R.faults report.old) (R.faults report.new) (R.empty_takes report.old) (R.empty_takes report.new) }
     ensures unwritten { WritesNothing result
@@ -154,7 +150,7 @@ fn run_file<S: Source, C: Sink, R: Sink>(
 /// Refuses a file that has more bytes than the limit.
 fn refuse_size<R: Sink>(limit: usize, report: &mut R) -> Status
     ensures ends { (console : Option (List ℕ))
-        → Ends (Status.TooBig limit) (marked Report too_big_line) result
+        → Ends (Status.TooBig limit) (for_outlet Report too_big_line) result
         console console (R.taken report.old) (R.taken report.new) }
     ensures answer { IsSizeAnswer limit result }
     ensures write { result ≡ Status.WriteFault → Rose (R.faults report.old) (R.faults report.new)
@@ -182,18 +178,18 @@ pub fn run<D: Desk, S: Source, C: Sink, R: Sink>(
     ensures refused { (file : List ℕ) → D.held desk.old name.now ≡ Some file → IsRefused file
         → Ends (Status.NotBuilt 0) [] result
         (C.taken console.old) (C.taken console.new) (R.taken report.old) (R.taken report.new) }
-    ensures too_big { (file : List ℕ) → D.held desk.old name.now ≡ Some file → file_limit < length file
-        → Ends (Status.TooBig file_limit) (marked Report too_big_line) result
+    ensures too_big { (file : List ℕ) → D.held desk.old name.now ≡ Some file → FILE_LIMIT < length file
+        → Ends (Status.TooBig FILE_LIMIT) (for_outlet Report too_big_line) result
         (C.taken console.old) (C.taken console.new) (R.taken report.old) (R.taken report.new) }
     ensures only { (file s : List ℕ) → D.held desk.old name.now ≡ Some file → S.left input.old ≡ Some s
         → RunOnly file s result }
 
     ensures named { NamesLine result }
     ensures read { result ≡ Status.ReadFault
-        → ReadCause (Some name.now) (D.faults desk.old) (D.faults desk.new)
+        → ReadFaultCause (Some name.now) (D.faults desk.old) (D.faults desk.new)
         (S.left input.old) (S.left input.new) (S.faults input.old) (S.faults input.new) }
-    ensures size { SizeCause result (D.large desk.old) (D.large desk.new) }
-    ensures write { WriteCause result
+    ensures size { TooBigCause result (D.large desk.old) (D.large desk.new) }
+    ensures write { WriteFaultCause result
         (C.faults console.old) (C.faults console.new) (C.empty_takes console.old) (C.empty_takes console.new)
         (R.faults report.old) (R.faults report.new) (R.empty_takes report.old) (R.empty_takes report.new) }
 

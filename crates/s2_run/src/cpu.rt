@@ -1,11 +1,11 @@
 //! The processor of the flat machine: its state, and how a step changes it.
 
 ghost use Rattle.std.specs.Prelude.{◌≡◌, ◌<◌};
-ghost use Rattle.s2_machine.specs.Registers.{is_interrupted, is_isolated};
+ghost use Rattle.s2_machine.specs.ControlRegisters.{is_interrupted, is_isolated};
 ghost use Rattle.s2_machine.specs.Processor.{start_of, register};
 ghost use Rattle.s2_machine.specs.Device.{lines_of, quiet_device};
-ghost use Rattle.s2_machine.specs.Stepping.{translated};
-ghost use Rattle.s2_machine.specs.Moving.{set_by, hi_lo_by, jumped_by, stored_by, with_lines};
+ghost use Rattle.s2_machine.specs.CycleCases.{translated};
+ghost use Rattle.s2_machine.specs.WriteBack.{after_set, after_set_hi_lo, after_jump, after_store, with_lines};
 
 use s2_base::{Segment, segment};
 use std::marker::Model;
@@ -25,7 +25,7 @@ pub struct Cpu {
 
 impl Model for Cpu {
     ghost use Rattle.std.specs.Prelude.{ℕ, replicate};
-    ghost use Rattle.s2_machine.specs.Registers.{blank_registers};
+    ghost use Rattle.s2_machine.specs.ControlRegisters.{blank_control_registers};
     ghost use Rattle.s2_machine.specs.Processor.{Processor};
 
     ghost Value = { Processor };
@@ -39,7 +39,7 @@ impl Model for Cpu {
       slot = c.slot;
       load_reg = 0;
       load_value = 0;
-      cp0 = blank_registers;
+      cp0 = blank_control_registers;
       tlb = replicate 64 (0, 0);
       run = c.run;
       lines = 0;
@@ -137,8 +137,8 @@ impl Cpu {
 
     /// The next instruction follows, as after a store. No interrupt line is up.
     pub fn follow(&mut self)
-        ensures next { self.new ≡ stored_by self.old }
-        ensures lines { self.new ≡ with_lines (stored_by self.old) (lines_of quiet_device) }
+        ensures next { self.new ≡ after_store self.old }
+        ensures lines { self.new ≡ with_lines (after_store self.old) (lines_of quiet_device) }
     {
         self.pc = self.npc;
         self.npc = self.npc.wrapping_add(4);
@@ -149,7 +149,7 @@ impl Cpu {
     /// A register is written, and the next instruction follows.
     pub fn set(&mut self, reg: u8, value: u32)
         requires { reg < 32 }
-        ensures { self.new ≡ set_by self.old reg value }
+        ensures { self.new ≡ after_set self.old reg value }
     {
         self.follow();
         if reg != 0 {
@@ -159,7 +159,7 @@ impl Cpu {
 
     /// HI and LO are written, and the next instruction follows.
     pub fn set_hi_lo(&mut self, hi: u32, lo: u32)
-        ensures { self.new ≡ hi_lo_by self.old hi lo }
+        ensures { self.new ≡ after_set_hi_lo self.old hi lo }
     {
         self.follow();
         self.hi = hi;
@@ -169,7 +169,7 @@ impl Cpu {
     /// A branch or a jump, with the register that takes the link.
     pub fn jump(&mut self, target: Option<u32>, link: u8)
         requires { link < 32 }
-        ensures { self.new ≡ jumped_by self.old target link }
+        ensures { self.new ≡ after_jump self.old target link }
     {
         if link != 0 {
             self.registers[link as usize] = self.pc.wrapping_add(8);

@@ -3,12 +3,13 @@
 ghost use Rattle.std.specs.Prelude.{◌≡◌, ◌<◌, ℕ, List, [], Some, None, map, string_bytes, drop, length};
 ghost use Rattle.std.specs.Option.{option_copied};
 ghost use Rattle.s2_elf.specs.Images.{image_of};
+ghost use Rattle.s2_run.specs.declared.limits.TheConstants.{FILE_LIMIT};
 ghost use Rattle.s2_run.specs.Script.{first_line, first_taken, run_name, IsTicks};
-ghost use Rattle.s2_run.specs.Transcript.{Report, marked, Untouched};
+ghost use Rattle.s2_run.specs.Transcript.{Report, for_outlet, Untouched};
 ghost use Rattle.s2_run.specs.ReportText.{too_big_line};
 ghost use Rattle.s2_run.specs.Execution.{cycle_limit, Halts, Stops, halt_transcript, stop_transcript};
 ghost use Rattle.s2_run.specs.Endings.{Ends, NamesLine, TakesLine, TakesWhole, TakesNothing, WritesNothing};
-ghost use Rattle.s2_run.specs.Reasons.{file_limit, NamesFile, IsAccepted, IsRefused, ComesOnly, ReadCause, SizeCause, WriteCause};
+ghost use Rattle.s2_run.specs.Reasons.{NamesFile, IsAccepted, IsRefused, ComesOnly, ReadFaultCause, TooBigCause, WriteFaultCause};
 
 use crate::command::run;
 use crate::status::Status;
@@ -68,8 +69,8 @@ pub fn serve<D: Desk, S: Source, C: Sink, R: Sink>(
         → Ends (Status.NotBuilt 0) [] result
         (C.taken console.old) (C.taken console.new) (R.taken report.old) (R.taken report.new) }
     ensures too_big { (name file : List ℕ)
-        → NamesFile (map string_bytes words.now) (D.held desk.old) name file → file_limit < length file
-        → Ends (Status.TooBig file_limit) (marked Report too_big_line) result
+        → NamesFile (map string_bytes words.now) (D.held desk.old) name file → FILE_LIMIT < length file
+        → Ends (Status.TooBig FILE_LIMIT) (for_outlet Report too_big_line) result
         (C.taken console.old) (C.taken console.new) (R.taken report.old) (R.taken report.new) }
 
     // No other answer than a fault or want of memory comes elsewhere.
@@ -81,12 +82,12 @@ pub fn serve<D: Desk, S: Source, C: Sink, R: Sink>(
     // A fault has its cause.
     ensures named { NamesLine result }
     ensures read { result ≡ Status.ReadFault
-        → ReadCause (run_name (map string_bytes words.now)) (D.faults desk.old) (D.faults desk.new)
+        → ReadFaultCause (run_name (map string_bytes words.now)) (D.faults desk.old) (D.faults desk.new)
         (S.left input.old) (S.left input.new) (S.faults input.old) (S.faults input.new) }
-    ensures write { WriteCause result
+    ensures write { WriteFaultCause result
         (C.faults console.old) (C.faults console.new) (C.empty_takes console.old) (C.empty_takes console.new)
         (R.faults report.old) (R.faults report.new) (R.empty_takes report.old) (R.empty_takes report.new) }
-    ensures size { SizeCause result (D.large desk.old) (D.large desk.new) }
+    ensures size { TooBigCause result (D.large desk.old) (D.large desk.new) }
 
     // What is not touched, and what is taken of the input.
     ensures unwritten { WritesNothing result

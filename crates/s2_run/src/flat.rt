@@ -3,22 +3,22 @@
 ghost use Rattle.std.specs.Prelude.{◌≡◌};
 ghost use Rattle.s2_base.specs.Map.{place_at};
 ghost use Rattle.s2_machine.specs.Machine.{started};
-ghost use Rattle.s2_machine.specs.Stepping.{step_of};
+ghost use Rattle.s2_machine.specs.CycleCases.{step_of};
 ghost use Rattle.s2_machine.specs.Cycle.{cycle, cycle_by, store_cycle};
-ghost use Rattle.s2_run.specs.Sound.{IsSound, answered};
+ghost use Rattle.s2_run.specs.StepRanges.{IsInRange, cycle_answer};
 
 use crate::cpu::Cpu;
-use crate::stepping::step;
-use s2_base::{Place, place};
+use crate::rows::step;
+use s2_base::{CONOUT, HALT, Place, place};
 use s2_elf::Image;
 use s2_machine::Step;
 use std::marker::Model;
 
 /// What a cycle gave.
 #[derive(Debug, Clone, Copy, PartialEq, Eq)]
-pub enum Cycled {
+pub enum CycleAnswer {
     /// It was run, with at most one byte for the console.
-    Ran(Option<u8>),
+    Run(Option<u8>),
     /// It is not built, and nothing changed.
     NotBuilt,
 }
@@ -34,7 +34,7 @@ pub struct FlatMachine {
 
 impl Model for FlatMachine {
     ghost use Rattle.std.specs.Prelude.{◌≡◌, length};
-    ghost use Rattle.s2_base.specs.Map.{local_words, global_words};
+    ghost use Rattle.s2_base.specs.declared.map.TheConstants.{LOCAL_WORDS, GLOBAL_WORDS};
     ghost use Rattle.s2_machine.specs.Device.{quiet_device};
     ghost use Rattle.s2_machine.specs.Machine.{Machine};
 
@@ -48,7 +48,7 @@ impl Model for FlatMachine {
       halt = f.halt;
     } };
 
-    ghost invariant = { λ f. (length f.local.items ≡ local_words) × (length f.global.items ≡ global_words) };
+    ghost invariant = { λ f. (length f.local.items ≡ LOCAL_WORDS) × (length f.global.items ≡ GLOBAL_WORDS) };
 }
 
 impl FlatMachine {
@@ -77,10 +77,10 @@ impl FlatMachine {
         self.cpu.follow();
         match place {
             Place::Device(k) => {
-                if k == 5 {
+                if k == HALT {
                     self.halt = Some(word);
                 }
-                if k == 0 {
+                if k == CONOUT {
                     Some((word % 256) as u8)
                 } else {
                     None
@@ -91,33 +91,33 @@ impl FlatMachine {
     }
 
     /// The cycle with this step.
-    fn apply(&mut self, step: Step) -> Cycled
-        requires { IsSound step }
+    fn apply(&mut self, step: Step) -> CycleAnswer
+        requires { IsInRange step }
         ensures next { self.new ≡ (cycle_by self.old step).next }
-        ensures answer { result ≡ answered self.old step }
+        ensures answer { result ≡ cycle_answer self.old step }
     {
         match step {
             Step::Set { reg, value } => {
                 self.cpu.set(reg, value);
-                Cycled::Ran(None)
+                CycleAnswer::Run(None)
             }
             Step::SetHiLo { hi, lo } => {
                 self.cpu.set_hi_lo(hi, lo);
-                Cycled::Ran(None)
+                CycleAnswer::Run(None)
             }
             Step::Jump { target, link } => {
                 self.cpu.jump(target, link);
-                Cycled::Ran(None)
+                CycleAnswer::Run(None)
             }
-            Step::Store { pa, word, mask: _ } => Cycled::Ran(self.store(word, place(pa))),
-            Step::NotBuilt => Cycled::NotBuilt,
+            Step::Store { pa, word, mask: _ } => CycleAnswer::Run(self.store(word, place(pa))),
+            Step::NotBuilt => CycleAnswer::NotBuilt,
         }
     }
 
     /// One cycle.
-    pub fn cycle(&mut self) -> Cycled
+    pub fn cycle(&mut self) -> CycleAnswer
         ensures next { self.new ≡ (cycle self.old).next }
-        ensures answer { result ≡ answered self.old (step_of self.old.cpu self.old.local) }
+        ensures answer { result ≡ cycle_answer self.old (step_of self.old.cpu self.old.local) }
     {
         let step = step(&self.cpu, self.local.as_slice());
         self.apply(step)

@@ -3,16 +3,18 @@
 
 mod command;
 mod cpu;
+mod cycles;
 mod dispatch;
 mod flat;
+mod limits;
+mod output;
 mod report;
-mod running;
+mod rows;
 mod script;
-mod sending;
 mod status;
-mod stepping;
 
 pub use dispatch::serve;
+pub use limits::{FILE_LIMIT, FIRST_REFRESH, TICK_LIMIT};
 pub use status::Status;
 
 #[cfg(test)]

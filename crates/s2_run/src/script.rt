@@ -5,7 +5,8 @@ ghost use Rattle.s2_io.specs.Counts.{Rose};
 ghost use Rattle.s2_run.specs.Script.{first_line, first_taken, IsTicks};
 ghost use Rattle.s2_run.specs.Endings.{TakesLine};
 
-use crate::sending::next_byte;
+use crate::limits::TICK_LIMIT;
+use crate::output::next_byte;
 use arrayvec::ArrayVec;
 use itoa::Buffer;
 use s2_io::{Failed, Source};
@@ -66,7 +67,7 @@ pub fn read_ticks(line: &[u8]) -> Option<u64>
 {
     let digits = line.strip_prefix(b"t 7 ")?;
     let n = read_number(digits)?;
-    if has_digits(n, digits) && n >= 1 && n <= 1_099_511_627_776 {
+    if has_digits(n, digits) && n >= 1 && n <= TICK_LIMIT {
         Some(n)
     } else {
         None

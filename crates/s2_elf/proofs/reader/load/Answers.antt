@@ -1,5 +1,5 @@
 -- Each word of both lists is that of the image.
-use Rattle.s2_base.specs.Map.{local_words, global_words}
+use Rattle.s2_base.specs.declared.map.TheConstants.{LOCAL_WORDS, GLOBAL_WORDS}
 use Rattle.s2_elf.specs.Images.{image_word, local_address, global_address}
 use Rattle.s2_elf.specs.Placing.{header_of}
 use Rattle.std.proofs.Common.{◌∙◌}
@@ -23,7 +23,7 @@ returns c =
     let single = read_is_single bytes h c.requires.readable c.requires.header in
     let word = image_word-one bytes h single.one single.loaded in
     image_from bytes _ c.entry_of-entry.ensures
-    (made_by (λ i. image_word bytes (local_address i)) local_words c.in_ok-local.local.items c.in_ok-local.ensures.count
+    (made_by (λ i. image_word bytes (local_address i)) LOCAL_WORDS c.in_ok-local.local.items c.in_ok-local.ensures.count
     (λ i within. c.in_ok-local.ensures.words i within ∙ word (local_address i)))
-    (made_by (λ i. image_word bytes (global_address i)) global_words c.in_ok-global.global.items c.in_ok-global.ensures.count
+    (made_by (λ i. image_word bytes (global_address i)) GLOBAL_WORDS c.in_ok-global.global.items c.in_ok-global.ensures.count
     (λ i within. c.in_ok-global.ensures.words i within ∙ word (global_address i)))

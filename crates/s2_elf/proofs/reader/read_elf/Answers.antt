@@ -5,7 +5,7 @@ use Rattle.s2_elf.specs.declared.fault.ElfFail.TheVariants.{Memory}
 use Rattle.s2_elf.specs.MemoryImage.{MemoryImage}
 use Rattle.s2_elf.specs.Files.{is_readable}
 use Rattle.s2_elf.specs.Images.{image_of}
-use Rattle.s2_elf.specs.Answers.{ReadsElf}
+use Rattle.s2_elf.specs.LoadResult.{ReadsElf}
 use Rattle.s2_elf.proofs.reader.read_elf.Goals as goal
 
 -- the image of a file that is read, or want of memory, is a right answer

@@ -4,7 +4,7 @@ ghost use Rattle.std.specs.Prelude.{◌≡◌, ◌<◌, ◌≤◌, ◌+◌, ◌^
 ghost use Rattle.s2_io.specs.Counts.{Rose};
 ghost use Rattle.s2_io.specs.Sources.{dropped};
 ghost use Rattle.s2_io.specs.Sinks.{appended};
-ghost use Rattle.s2_run.specs.Sending.{sent, SinkCause, next_of, byte_count};
+ghost use Rattle.s2_run.specs.SentPieces.{sent, SinkCause, next_of, byte_count};
 
 use s2_io::{Failed, Sink, Source};
 

@@ -3,7 +3,7 @@ use Rattle.std.specs.Prelude.{ℕ, ◌≤◌, ◌⊎◌, List, [], ◌∷◌, ta
 use Rattle.std.specs.declared.option.Option.{Option}
 use Rattle.std.specs.declared.result.Result.{Result}
 use Rattle.s2_io.specs.Counts.{Rose}
-use Rattle.s2_run.specs.declared.sending.Cut.{Cut}
+use Rattle.s2_run.specs.declared.output.Cut.{Cut}
 
 -- the part of a piece that went: all of it, or the front before the cut
 abbrev pub sent : {T : Type 0} → Result T Cut → List ℕ → List ℕ

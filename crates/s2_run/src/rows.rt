@@ -2,22 +2,23 @@
 
 ghost use Rattle.std.specs.Prelude.{◌≡◌, ◌<◌, ◌^◌, ℕ, Some, length};
 ghost use Rattle.s2_base.specs.Words.{word_sum, sext16_of};
-ghost use Rattle.s2_base.specs.Map.{local_words, place_at};
+ghost use Rattle.s2_base.specs.Map.{place_at};
+ghost use Rattle.s2_base.specs.declared.map.TheConstants.{LOCAL_WORDS};
 ghost use Rattle.s2_decode.specs.Properness.{IsBranchRegister, IsProper};
 ghost use Rattle.s2_alu.specs.Arithmetic.{product_or_quotient};
 ghost use Rattle.s2_machine.specs.Processor.{register};
-ghost use Rattle.s2_machine.specs.Stepping.{step_of, row, set_checked, three_step, immediate_step, set_hi_lo, move_from, move_to, jump_step, branch_link, branch_step, memory_step, store_at, fetched};
-ghost use Rattle.s2_run.specs.Sound.{IsSound};
+ghost use Rattle.s2_machine.specs.CycleCases.{step_of, row, set_checked, three_step, immediate_step, set_hi_lo, move_from, move_to, jump_step, branch_link, branch_step, memory_step, store_at, fetched};
+ghost use Rattle.s2_run.specs.StepRanges.{IsInRange};
 
 use crate::cpu::Cpu;
-use s2_alu::{add_signed, mul_div, shift, sub_signed, taken, three};
-use s2_base::{Place, place, sext16};
+use s2_alu::{immediate as immediate_value, mul_div, shift, taken, three};
+use s2_base::{CONOUT, HALT, Place, place, sext16};
 use s2_decode::{Instr, Op3, OpB, OpD, OpI, OpM, OpS, decode};
 use s2_machine::Step;
 
 /// The word that pc names.
 fn fetch(cpu: &Cpu, local: &[u32]) -> Option<u32>
-    requires { length local.now ≡ local_words }
+    requires { length local.now ≡ LOCAL_WORDS }
     ensures { result ≡ fetched cpu.now local.now }
 {
     let pc = cpu.pc();
@@ -34,7 +35,7 @@ fn fetch(cpu: &Cpu, local: &[u32]) -> Option<u32>
 fn set(reg: u8, value: u32) -> Step
     requires { reg < 32 }
     ensures step { result ≡ Step.Set reg value }
-    ensures sound { IsSound result }
+    ensures sound { IsInRange result }
 {
     Step::Set { reg, value }
 }
@@ -43,7 +44,7 @@ fn set(reg: u8, value: u32) -> Step
 fn set_unless_overflow(reg: u8, value: Option<u32>) -> Step
     requires { reg < 32 }
     ensures step { result ≡ set_checked reg value }
-    ensures sound { IsSound result }
+    ensures sound { IsInRange result }
 {
     match value {
         Some(value) => set(reg, value),
@@ -57,15 +58,9 @@ fn three_registers(cpu: &Cpu, op: Op3, rd: u8, rs: u8, rt: u8) -> Step
     requires rs { rs < 32 }
     requires rt { rt < 32 }
     ensures step { result ≡ three_step cpu.now op rd rs rt }
-    ensures sound { IsSound result }
+    ensures sound { IsInRange result }
 {
-    let s = cpu.register(rs);
-    let t = cpu.register(rt);
-    match op {
-        Op3::Add => set_unless_overflow(rd, add_signed(s, t)),
-        Op3::Sub => set_unless_overflow(rd, sub_signed(s, t)),
-        _ => set(rd, three(op, s, t)),
-    }
+    set_unless_overflow(rd, three(op, cpu.register(rs), cpu.register(rt)))
 }
 
 /// A row with an immediate.
@@ -73,20 +68,9 @@ fn immediate(cpu: &Cpu, op: OpI, rt: u8, rs: u8, imm: u16) -> Step
     requires rt { rt < 32 }
     requires rs { rs < 32 }
     ensures step { result ≡ immediate_step cpu.now op rt rs imm }
-    ensures sound { IsSound result }
+    ensures sound { IsInRange result }
 {
-    let s = cpu.register(rs);
-    let signed = sext16(imm as u32);
-    let value = match op {
-        OpI::Addi => return set_unless_overflow(rt, add_signed(s, signed)),
-        OpI::Addiu => s.wrapping_add(signed),
-        OpI::Slti => three(Op3::Slt, s, signed),
-        OpI::Sltiu => three(Op3::Sltu, s, signed),
-        OpI::Andi => s & imm as u32,
-        OpI::Ori => s | imm as u32,
-        OpI::Xori => s ^ imm as u32,
-    };
-    set(rt, value)
+    set_unless_overflow(rt, immediate_value(op, cpu.register(rs), imm))
 }
 
 /// A branch, relative to the delay slot.
@@ -94,7 +78,7 @@ fn branch(cpu: &Cpu, op: OpB, rs: u8, rt: u8, off: u16) -> Step
     requires rs { rs < 32 }
     requires rt { IsBranchRegister op rt }
     ensures step { result ≡ branch_step cpu.now op rs rt off }
-    ensures sound { IsSound result }
+    ensures sound { IsInRange result }
 {
     let link = link_of(op);
     if taken(op, cpu.register(rs), cpu.register(rt)) {
@@ -122,10 +106,10 @@ fn link_of(op: OpB) -> u8
 /// A store of a word at a place.
 fn store(pa: u32, word: u32) -> Step
     ensures step { result ≡ store_at pa word (place_at pa) }
-    ensures sound { IsSound result }
+    ensures sound { IsInRange result }
 {
     match place(pa) {
-        Place::Device(0) | Place::Device(5) => Step::Store { pa, word, mask: 15 },
+        Place::Device(CONOUT) | Place::Device(HALT) => Step::Store { pa, word, mask: 15 },
         _ => Step::NotBuilt,
     }
 }
@@ -135,7 +119,7 @@ fn memory(cpu: &Cpu, op: OpM, rt: u8, base: u8, off: u16) -> Step
     requires rt { rt < 32 }
     requires base { base < 32 }
     ensures step { result ≡ memory_step cpu.now op rt (word_sum (register cpu.now base) (sext16_of off)) }
-    ensures sound { IsSound result }
+    ensures sound { IsInRange result }
 {
     let va = cpu.register(base).wrapping_add(sext16(off as u32));
     match op {
@@ -148,7 +132,7 @@ fn memory(cpu: &Cpu, op: OpM, rt: u8, base: u8, off: u16) -> Step
 fn store_word(cpu: &Cpu, rt: u8, va: u32) -> Step
     requires { rt < 32 }
     ensures step { result ≡ memory_step cpu.now OpM.Sw rt va }
-    ensures sound { IsSound result }
+    ensures sound { IsInRange result }
 {
     if va % 4 != 0 || cpu.is_isolated() {
         return Step::NotBuilt;
@@ -163,7 +147,7 @@ fn store_word(cpu: &Cpu, rt: u8, va: u32) -> Step
 fn jump(cpu: &Cpu, link: bool, target: u32) -> Step
     requires { target < 2 ^ 26 }
     ensures step { result ≡ jump_step cpu.now link target }
-    ensures sound { IsSound result }
+    ensures sound { IsInRange result }
 {
     Step::Jump {
         target: Some(cpu.npc() / 0x1000_0000 * 0x1000_0000 + target * 4),
@@ -176,7 +160,7 @@ fn jump_to_register(cpu: &Cpu, rs: u8, link: u8) -> Step
     requires rs { rs < 32 }
     requires link { link < 32 }
     ensures step { result ≡ Step.Jump (Some (register cpu.now rs)) link }
-    ensures sound { IsSound result }
+    ensures sound { IsInRange result }
 {
     Step::Jump {
         target: Some(cpu.register(rs)),
@@ -190,7 +174,7 @@ fn multiply_or_divide(cpu: &Cpu, op: OpD, rs: u8, rt: u8) -> Step
     requires rt { rt < 32 }
     ensures step { result
         ≡ set_hi_lo (product_or_quotient op (register cpu.now rs) (register cpu.now rt)) }
-    ensures sound { IsSound result }
+    ensures sound { IsInRange result }
 {
     let (hi, lo) = mul_div(op, cpu.register(rs), cpu.register(rt));
     Step::SetHiLo { hi, lo }
@@ -207,7 +191,7 @@ fn from_hi_or_lo(cpu: &Cpu, hi: bool) -> u32
 fn to_hi_or_lo(cpu: &Cpu, hi: bool, rs: u8) -> Step
     requires { rs < 32 }
     ensures step { result ≡ move_to cpu.now hi rs }
-    ensures sound { IsSound result }
+    ensures sound { IsInRange result }
 {
     let word = cpu.register(rs);
     if hi {
@@ -227,7 +211,7 @@ fn to_hi_or_lo(cpu: &Cpu, hi: bool, rs: u8) -> Step
 fn row_of(cpu: &Cpu, instr: Instr) -> Step
     requires { IsProper instr }
     ensures step { result ≡ row cpu.now instr }
-    ensures sound { IsSound result }
+    ensures sound { IsInRange result }
 {
     match instr {
         Instr::Three { op, rd, rs, rt } => three_registers(cpu, op, rd, rs, rt),
@@ -251,9 +235,9 @@ fn row_of(cpu: &Cpu, instr: Instr) -> Step
 
 /// What the next cycle does.
 pub fn step(cpu: &Cpu, local: &[u32]) -> Step
-    requires { length local.now ≡ local_words }
+    requires { length local.now ≡ LOCAL_WORDS }
     ensures step { result ≡ step_of cpu.now local.now }
-    ensures sound { IsSound result }
+    ensures sound { IsInRange result }
 {
     if cpu.is_interrupted() {
         return Step::NotBuilt;

@@ -1,13 +1,13 @@
 //! The execution of a program on the flat machine, with its console bytes.
 
 ghost use Rattle.std.specs.Prelude.{◌≡◌, ◌<◌, ◌≤◌, None, IfOk, IfErr, OnOk, length};
-ghost use Rattle.s2_machine.specs.Going.{bytes_of};
+ghost use Rattle.s2_machine.specs.MachineRun.{bytes_of};
 ghost use Rattle.s2_io.specs.Sinks.{appended};
-ghost use Rattle.s2_run.specs.Sending.{sent, SinkCause};
-ghost use Rattle.s2_run.specs.Execution.{run_from};
+ghost use Rattle.s2_run.specs.SentPieces.{sent, SinkCause};
+ghost use Rattle.s2_run.specs.Execution.{run_within};
 
-use crate::flat::{Cycled, FlatMachine};
-use crate::sending::{Cut, put};
+use crate::flat::{CycleAnswer, FlatMachine};
+use crate::output::{Cut, put};
 use s2_io::Sink;
 
 /// Writes the console byte of a cycle, if there is one, and counts it.
@@ -37,18 +37,18 @@ pub fn run_cycles<C: Sink>(
 ) -> Result<u64, Cut>
     requires { machine.old.halt ≡ None }
     ensures bytes { C.taken console.new
-        ≡ appended (C.taken console.old) (sent result (run_from machine.old limit).bytes) }
-    ensures machine { OnOk result (machine.new ≡ (run_from machine.old limit).machine) }
-    ensures count { IfOk result (λ n. n ≡ length (run_from machine.old limit).bytes) }
-    ensures cut { IfErr result (λ e. e.taken < length (run_from machine.old limit).bytes) }
+        ≡ appended (C.taken console.old) (sent result (run_within machine.old limit).bytes) }
+    ensures machine { OnOk result (machine.new ≡ (run_within machine.old limit).machine) }
+    ensures count { IfOk result (λ n. n ≡ length (run_within machine.old limit).bytes) }
+    ensures cut { IfErr result (λ e. e.taken < length (run_within machine.old limit).bytes) }
     ensures cause { SinkCause result (C.faults console.old) (C.faults console.new)
         (C.empty_takes console.old) (C.empty_takes console.new) }
 {
     let mut written = 0u64;
     for _ in 0..limit {
         let out = match machine.cycle() {
-            Cycled::NotBuilt => return Ok(written),
-            Cycled::Ran(out) => out,
+            CycleAnswer::NotBuilt => return Ok(written),
+            CycleAnswer::Run(out) => out,
         };
         match emit(console, out) {
             Ok(n) => written += n,

@@ -1,6 +1,6 @@
 use Rattle.std.proofs.Common.{◌≤◌}
 use Rattle.s2_run.proofs.Progress.{Running}
-use Rattle.s2_run.proofs.running.run_cycles.Given as goal
+use Rattle.s2_run.proofs.cycles.run_cycles.Given as goal
 
 -- the run goes on, with at most one byte a cycle, and no count has fallen
 abbrev pub invariant-loop : goal.invariant-loop

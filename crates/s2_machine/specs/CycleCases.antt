@@ -1,25 +1,24 @@
 -- What a cycle does: the first of its cases that applies. A case that is not built gives NotBuilt.
-use Rattle.std.specs.Prelude.{ℕ, ◌+◌, ◌*◌, ◌/◌, ◌%◌, ◌^◌, ◌==◌, ◌||◌, Bool, true, false, List, slice_index, Some, None, bit_and, bit_or, bit_xor, if◌then◌else◌}
+use Rattle.std.specs.Prelude.{ℕ, ◌+◌, ◌*◌, ◌/◌, ◌%◌, ◌^◌, ◌==◌, ◌||◌, Bool, true, false, List, slice_index, Some, None, if◌then◌else◌}
 use Rattle.std.specs.declared.option.Option.{Option}
 use Rattle.s2_base.specs.Words.{sext16_of, word_sum}
 use Rattle.s2_base.specs.Map.{place_at, segment_at}
+use Rattle.s2_base.specs.declared.devices.TheConstants.{CONOUT, HALT}
 use Rattle.s2_base.specs.declared.places.Place.{Place}
 use Rattle.s2_base.specs.declared.places.Place.TheVariants.{Local, Boot, Global, Device, Nowhere}
 use Rattle.s2_base.specs.declared.places.Segment.{Segment}
 use Rattle.s2_base.specs.declared.places.Segment.TheVariants.{Direct, Mapped, Denied}
 use Rattle.s2_decode.specs.Table.{decoded}
 use Rattle.s2_decode.specs.declared.instr.Op3.{Op3}
-use Rattle.s2_decode.specs.declared.instr.Op3.TheVariants.{Add, Sub}
 use Rattle.s2_decode.specs.declared.instr.OpI.{OpI}
-use Rattle.s2_decode.specs.declared.instr.OpI.TheVariants.{Addi, Addiu, Slti, Sltiu, Andi, Ori, Xori}
 use Rattle.s2_decode.specs.declared.instr.OpB.{OpB}
 use Rattle.s2_decode.specs.declared.instr.OpB.TheVariants.{Bltzal, Bgezal}
 use Rattle.s2_decode.specs.declared.instr.OpM.{OpM}
 use Rattle.s2_decode.specs.declared.instr.OpM.TheVariants.{Sw}
 use Rattle.s2_decode.specs.declared.instr.Instr.{Instr}
 use Rattle.s2_decode.specs.declared.instr.Instr.TheVariants.{Three, Shift, Imm, Lui, MulDiv, MoveFrom, MoveTo, Jump as JumpRow, JumpReg, JumpLinkReg, Branch, Memory, Syscall, Break, Mfc0, Mtc0, Tlbr, Tlbwi, Tlbwr, Tlbp, Rfe, Foreign, Reserved}
-use Rattle.s2_alu.specs.Arithmetic.{signed_sum, signed_difference, shifted, set_below, set_below_unsigned, three_value, Pair, product_or_quotient, is_taken}
-use Rattle.s2_machine.specs.Registers.{is_user, is_isolated, is_interrupted}
+use Rattle.s2_alu.specs.Arithmetic.{shifted, three_value, immediate_value, Pair, product_or_quotient, is_taken}
+use Rattle.s2_machine.specs.ControlRegisters.{is_user, is_isolated, is_interrupted}
 use Rattle.s2_machine.specs.Processor.{Processor, register}
 use Rattle.s2_machine.specs.declared.step.Step.{Step}
 use Rattle.s2_machine.specs.declared.step.Step.TheVariants.{Set, SetHiLo, Jump, Store, NotBuilt}
@@ -38,21 +37,12 @@ abbrev pub set_checked : ℕ → Option ℕ → Step
 set_checked reg (Some value) = Set reg value
 set_checked reg None = NotBuilt
 
--- a row of three registers
+-- a row of three registers, and one with an immediate
 abbrev pub three_step : Processor → Op3 → ℕ → ℕ → ℕ → Step
-three_step p Add rd rs rt = set_checked rd (signed_sum (register p rs) (register p rt))
-three_step p Sub rd rs rt = set_checked rd (signed_difference (register p rs) (register p rt))
-three_step p op rd rs rt = Set rd (three_value op (register p rs) (register p rt))
+three_step p op rd rs rt = set_checked rd (three_value op (register p rs) (register p rt))
 
--- a row with an immediate, which is sign-extended by sums and comparisons and zero-extended else
 abbrev pub immediate_step : Processor → OpI → ℕ → ℕ → ℕ → Step
-immediate_step p Addi rt rs imm = set_checked rt (signed_sum (register p rs) (sext16_of imm))
-immediate_step p Addiu rt rs imm = Set rt (word_sum (register p rs) (sext16_of imm))
-immediate_step p Slti rt rs imm = Set rt (set_below (register p rs) (sext16_of imm))
-immediate_step p Sltiu rt rs imm = Set rt (set_below_unsigned (register p rs) (sext16_of imm))
-immediate_step p Andi rt rs imm = Set rt (bit_and (register p rs) imm)
-immediate_step p Ori rt rs imm = Set rt (bit_or (register p rs) imm)
-immediate_step p Xori rt rs imm = Set rt (bit_xor (register p rs) imm)
+immediate_step p op rt rs imm = set_checked rt (immediate_value op (register p rs) imm)
 
 -- a row that sets HI and LO
 abbrev pub set_hi_lo : Pair → Step
@@ -89,7 +79,7 @@ branch_step p op rs rt off = Jump (if is_taken op (register p rs) (register p rt
 
 -- a store at a place: of the devices, CONOUT and HALT are built
 abbrev pub store_at : ℕ → ℕ → Place → Step
-store_at pa word (Device k) = if (k == 0 || k == 5) then Store pa word 15 else NotBuilt
+store_at pa word (Device k) = if (k == CONOUT || k == HALT) then Store pa word 15 else NotBuilt
 store_at pa word (Local i) = NotBuilt
 store_at pa word (Boot i) = NotBuilt
 store_at pa word (Global i) = NotBuilt
