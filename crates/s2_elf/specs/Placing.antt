@@ -1,4 +1,4 @@
--- What the parts of the loader compute: one program header, the room for a segment, one word.
+-- For the parts of the loader: what they compute of one program header, of the room for a segment, of one word.
 use Rattle.std.specs.Prelude.{ℕ, ◌+◌, ◌-◌, ◌*◌, ◌/◌, ◌%◌, ◌<◌, ◌≤◌, ◌==◌, ◌&&◌, Bool, List, length, nat_lt, if◌then◌else◌}
 use Rattle.std.specs.List.{list_all}
 use Rattle.s2_base.specs.Map.{place_at, is_between}

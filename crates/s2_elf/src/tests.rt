@@ -4,7 +4,7 @@ use super::*;
 use std::alloc::{AllocError, Global};
 use std::test::Fail;
 
-/// The program of the small file: it writes "hi" and stops.
+/// The program of the small file, which writes "hi" and stops: `examples/hello/hello.elf` from byte 84 on.
 const PROGRAM: [u32; 8] = [
     0x3C08_BF00,
     0x2409_0068,
@@ -16,7 +16,7 @@ const PROGRAM: [u32; 8] = [
     0xAD00_0014,
 ];
 
-/// The words of the small file's two headers.
+/// The words of the small file's two headers: the front of `examples/hello/hello.elf`, from byte 0 on.
 const HEADERS: [u32; 21] = [
     0x7F45_4C46,
     0x0102_0100,

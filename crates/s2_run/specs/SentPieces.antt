@@ -1,4 +1,4 @@
--- How far a piece went, and why it went no further.
+-- For the parts of the command: how far a piece went, and why it went no further.
 use Rattle.std.specs.Prelude.{ℕ, ◌≤◌, ◌⊎◌, List, [], ◌∷◌, take, Some, None, Ok, Err, OnErr}
 use Rattle.std.specs.declared.option.Option.{Option}
 use Rattle.std.specs.declared.result.Result.{Result}

@@ -1,4 +1,4 @@
--- The ranges of what a step holds, and what a cycle answers.
+-- For the parts of the command: the ranges of what a step holds, and what a cycle answers.
 use Rattle.std.specs.Prelude.{◌<◌, if◌then◌else◌}
 use Rattle.s2_machine.specs.declared.step.Step.{Step}
 use Rattle.s2_machine.specs.declared.step.Step.TheVariants.{Set, SetHiLo, Jump, Store, NotBuilt}

@@ -20,7 +20,9 @@ pub enum Status {
     TooBig { limit: usize },
     /// Memory was refused, before the input was read and before anything was written.
     Memory,
-    /// The words or the file (line 0), or a line of the input, are not built.
+    /// What was asked for is not built: the words or the file (line 0), the first line of the script
+    /// (line 1), or a cycle that the program comes to. A program that does not halt within the ticks that
+    /// are run is answered so too (line 1).
     NotBuilt { line: u64 },
 }
 

@@ -5,7 +5,8 @@ use s2_io::{MemDesk, MemSink, MemSource};
 use std::process::Abort;
 use std::test::Fail;
 
-/// A program that writes `h`, `i` and a line feed to CONOUT and halts with 0, in eight cycles.
+/// A program that writes `h`, `i` and a line feed to CONOUT and halts with 0, in eight cycles: the file
+/// `examples/hello/hello.elf`.
 #[rattlefmt::skip]
 static HELLO: [u8; 116] = [
     0x7F, 0x45, 0x4C, 0x46, 0x01, 0x02, 0x01, 0x00, 0x00, 0x00, 0x00, 0x00,
