@@ -1,0 +1,2 @@
+pub use Rattle.s2_store.specs.Marks
+pub mod PageMarks
