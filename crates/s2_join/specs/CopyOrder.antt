@@ -58,7 +58,8 @@ copy_start p = record { joiner = p; clean = replicate LOCAL_PAGES false; cursor 
 abbrev pub copy_after_store : ℕ → CopyState → CopyState
 copy_after_store page j = record j { clean = slice_set j.clean page false }
 
--- a Sync copies a single page while more than so many pages are unclean and fewer Syncs than that have copied
+-- a Sync copies a single page where more than CLOSING_PAGES pages are unclean and fewer than
+-- SINGLE_PAGE_SYNCS Syncs have copied
 abbrev pub is_single_page_sync : CopyState → Bool
 is_single_page_sync j = nat_lt CLOSING_PAGES (unclean_count j.clean) && nat_lt j.syncs SINGLE_PAGE_SYNCS
 
