@@ -1,0 +1,2 @@
+pub mod BitsShown
+pub mod FairWindows

@@ -1,0 +1,2 @@
+pub mod TickWindow
+pub mod ClockWatch

@@ -1,0 +1,105 @@
+//! The watch over three clocks.
+
+ghost use Rattle.s2_clock.specs.ClockWatch.{is_firing, is_tainted, slow_at as slow_at_p, slow_of, fair_windows, tick_answer, watch_after};
+ghost use Rattle.std.specs.Prelude.{◌≡◌, ◌<◌};
+
+use crate::numbers::MISSES_ALLOWED;
+use crate::window::TickWindow;
+use std::marker::Model;
+
+/// The reason why a tick is refused: a good processor whose clock is too slow.
+#[derive(Debug, Clone, Copy, PartialEq, Eq)]
+pub struct Slow {
+    /// The processor's number, 0, 1 or 2. It is the least of those that are too slow.
+    pub p: u8,
+    /// How many of the last [`WINDOW`](crate::WINDOW) ticks it would have missed, the refused one included.
+    pub misses: u8,
+}
+
+/// The last ticks of the three processors.
+///
+/// Contracts see it as three lists of [`WINDOW`](crate::WINDOW) ticks each, the newest first: true
+/// where the processor fired.
+#[derive(Drop)]
+pub struct Watch {
+    windows: [TickWindow; 3],
+}
+
+impl Model for Watch {
+    ghost use Rattle.std.specs.Prelude.{List, Bool};
+
+    ghost Value = { List (List Bool) };
+
+    ghost view = { λ w. w.windows };
+}
+
+/// Whether a mask has processor p fire.
+fn fires(mask: u8, p: u8) -> bool
+    requires { p < 3 }
+    ensures { result ≡ is_firing mask p }
+{
+    (mask >> p) & 1 == 1
+}
+
+/// Whether processor p is the tainted one.
+fn taints(tainted: Option<u8>, p: u8) -> bool
+    ensures { result ≡ is_tainted tainted p }
+{
+    tainted == Some(p)
+}
+
+impl Watch {
+    /// Three processors that fired at every tick so far, as at the start of a run.
+    pub fn new() -> Watch
+        ensures { result ≡ fair_windows }
+    {
+        Watch {
+            windows: [TickWindow::new(), TickWindow::new(), TickWindow::new()],
+        }
+    }
+
+    /// Says of processor p that it is too slow for a tick, where it is.
+    fn slow_at(&self, mask: u8, tainted: Option<u8>, p: u8) -> Option<Slow>
+        requires { p < 3 }
+        ensures { result ≡ slow_at_p mask tainted self.now p }
+    {
+        let misses = self.windows[p as usize].misses_after(fires(mask, p));
+        if misses > MISSES_ALLOWED && !taints(tainted, p) {
+            Some(Slow { p, misses })
+        } else {
+            None
+        }
+    }
+
+    /// The least processor that is too slow for a tick.
+    fn slow(&self, mask: u8, tainted: Option<u8>) -> Option<Slow>
+        ensures { result ≡ slow_of mask tainted self.now }
+    {
+        let first = self.slow_at(mask, tainted, 0);
+        let second = self.slow_at(mask, tainted, 1);
+        let third = self.slow_at(mask, tainted, 2);
+        first.or(second).or(third)
+    }
+
+    /// Records one tick, at which the processors fire whose bits are set in the mask: bit p for
+    /// processor p. For the tainted processor, which may have any clock, it is recorded as fired.
+    ///
+    /// Refused exactly where a processor that is not tainted would have missed more than
+    /// [`MISSES_ALLOWED`](crate::MISSES_ALLOWED) of its last [`WINDOW`](crate::WINDOW) ticks, this one
+    /// included. The answer names the least such processor, and nothing is recorded.
+    ///
+    /// Source: this project's own rule of fair clocks (`docs/MACHINE.md`, "Clocks").
+    pub fn tick(&mut self, mask: u8, tainted: Option<u8>) -> Result<(), Slow>
+        requires { mask < 8 }
+        ensures answer { result ≡ tick_answer (slow_of mask tainted self.old) }
+        ensures windows { self.new ≡ watch_after mask tainted self.old }
+    {
+        if let Some(slow) = self.slow(mask, tainted) {
+            return Err(slow);
+        }
+        self.windows[0].record(fires(mask, 0), taints(tainted, 0));
+        self.windows[1].record(fires(mask, 1), taints(tainted, 1));
+        self.windows[2].record(fires(mask, 2), taints(tainted, 2));
+        Ok(())
+    }
+}
