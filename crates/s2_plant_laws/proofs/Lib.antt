@@ -1,0 +1,9 @@
+pub mod Spans
+pub mod LostTicks
+pub mod FairWork
+pub mod FairTicks
+pub mod ClockBounds
+pub mod SkewBounds
+pub mod TickBounds
+pub mod Waits
+pub mod Requests

@@ -1,0 +1,17 @@
+//! The numbers that the laws give. Each is this project's own, and follows from the rule of fair clocks.
+
+/// How many ticks apart two good processors may post the same request, with frames of up to
+/// [`FRAME`](s2_clock::FRAME) run cycles.
+pub const SKEW_BOUND: u16 = 82;
+
+/// The same, in ticks, with frames of up to [`LONGEST_FRAME`](s2_clock::LONGEST_FRAME) run cycles.
+pub const LONG_SKEW_BOUND: u16 = 312;
+
+/// The age, in ticks since the second latch, at which the voter decides without the third processor.
+pub const TIMER_BOUND: u16 = 128;
+
+/// The stated wait: at most so many ticks go from a good processor's posting to the verdict.
+pub const STATED_WAIT: u16 = 210;
+
+/// The stated reintegration: fewer than so many ticks go from a `revive` to the end of the repair.
+pub const STATED_REINTEGRATION: u32 = 5_000_000;
