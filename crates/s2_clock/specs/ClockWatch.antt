@@ -19,13 +19,15 @@ is_tainted (Some t) p = t == p
 abbrev pub is_recorded_as_fired : ℕ → Option ℕ → ℕ → Bool
 is_recorded_as_fired mask tainted p = is_firing mask p || is_tainted tainted p
 
--- the ticks of processor p, and those of one and of all three after a tick with a mask
+-- the ticks of processor p
 abbrev pub window_at : List (List Bool) → ℕ → List Bool
 window_at windows p = slice_index_or windows p []
 
+-- the ticks of processor p after a tick with a mask
 abbrev pub window_next : ℕ → Option ℕ → List (List Bool) → ℕ → List Bool
 window_next mask tainted windows p = window_after (is_recorded_as_fired mask tainted p) (window_at windows p)
 
+-- the ticks of all three after a tick with a mask
 abbrev pub windows_after : ℕ → Option ℕ → List (List Bool) → List (List Bool)
 windows_after mask tainted windows =
     window_next mask tainted windows 0 ∷ window_next mask tainted windows 1 ∷ window_next mask tainted windows 2 ∷ []
@@ -59,6 +61,7 @@ abbrev pub tick_answer : Option Slow → Result (Unit {0}) Slow
 tick_answer None = Ok tt
 tick_answer (Some slow) = Err slow
 
+-- these ticks after a tick, or the old ones where it was refused
 abbrev pub windows_unless : Option Slow → List (List Bool) → List (List Bool) → List (List Bool)
 windows_unless None new old = new
 windows_unless (Some slow) new old = old

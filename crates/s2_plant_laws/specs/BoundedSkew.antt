@@ -19,12 +19,15 @@ pub record SkewData : Type 0 where
   pub resumed : ℕ
   pub resumed_run : ℕ
 
+-- what is read where there is no processor of a number
 abbrev pub blank_clock : ClockData
 blank_clock = record { run = 0; fires = 0; full = false; posted = 0; watch = [] }
 
+-- processor p
 abbrev pub clock_at : List ClockData → ℕ → ClockData
 clock_at clocks p = slice_index_or clocks p blank_clock
 
+-- whether processor p has a latch
 abbrev pub is_latched : List Bool → ℕ → Bool
 is_latched latched p = slice_index_or latched p false
 
@@ -32,6 +35,7 @@ is_latched latched p = slice_index_or latched p false
 abbrev pub is_good : Option ℕ → ℕ → Bool
 is_good tainted p = not (is_tainted tainted p)
 
+-- one where there is a latch
 abbrev pub latch_count : Bool → ℕ
 latch_count true = 1
 latch_count false = 0
@@ -51,6 +55,7 @@ abbrev pub IsBeforeTimer : ℕ → Option ℕ → Type 0
 IsBeforeTimer timer None = Unit {0}
 IsBeforeTimer timer (Some age) = age < timer
 
+-- the ticks since the last resume
 abbrev pub since_resume : SkewData → ℕ
 since_resume d = d.ticks - d.resumed
 
@@ -60,6 +65,7 @@ abbrev pub AgeBounds : ℕ → ℕ → ℕ → Option ℕ → Type 0
 AgeBounds timer j elapsed None = elapsed < span j
 AgeBounds timer j elapsed (Some age) = (age < timer) × (age + j ≤ elapsed) × (elapsed ≤ age + span j)
 
+-- each good processor is within its bounds
 abbrev pub AllBounded : ℕ → ℕ → ℕ → ℕ → Option ℕ → List ClockData → Type 0
 AllBounded j resumed from elapsed tainted clocks =
     (p : ℕ) → p < 3 → is_good tainted p ≡ true → BoundedClock j resumed from elapsed (clock_at clocks p)
@@ -110,6 +116,7 @@ pub record IsActOn (old new : SkewData) : Type 0 where
   pub clocks : (p : ℕ) → p < 3 → is_good new.tainted p ≡ true → clock_at new.clocks p ≡ clock_at old.clocks p
   pub age : (new.age ≡ old.age) ⊎ LosesAge new
 
+-- an act of the script leaves the skew bounded
 abbrev pub ActBoundsSkew : Type 0
 ActBoundsSkew = (timer j : ℕ) (old new : SkewData) → IsActOn old new → BoundedSkew timer j old → BoundedSkew timer j new
 
@@ -120,6 +127,7 @@ pub record ClockAtResume (from : ℕ) (c : ClockData) : Type 0 where
   pub full : c.full ≡ false
   pub fair : misses_in c.watch ≤ MISSES_ALLOWED
 
+-- a machine right after a resume: no time has passed, and no processor is latched
 pub record AtResume (d : SkewData) : Type 0 where
   pub now : d.resumed ≡ d.ticks
   pub each : (p : ℕ) → p < 3 → is_good d.tainted p ≡ true → ClockAtResume d.resumed_run (clock_at d.clocks p)

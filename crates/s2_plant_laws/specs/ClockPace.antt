@@ -35,6 +35,7 @@ after_firing asks tick c =
     let next = record c { fires = (c.fires + 1) % REFRESH_PERIOD; watch = window_after true c.watch } in
     if nat_lt c.fires refresh_from then after_work_unless c.full asks tick next else next
 
+-- a missed tick is recorded, and nothing else happens
 abbrev pub after_miss : ClockData → ClockData
 after_miss c = record c { watch = window_after false c.watch }
 
@@ -59,6 +60,7 @@ pub record PostedInTime (j resumed from elapsed : ℕ) (c : ClockData) : Type 0 
   pub soon : c.posted ≤ resumed + span j
   pub past : c.posted ≤ resumed + elapsed
 
+-- a processor works until its port is full, and then its request waits
 abbrev pub ProgressBy : Bool → ℕ → ℕ → ℕ → ℕ → ClockData → Type 0
 ProgressBy false j resumed from elapsed c = WorkProgress j from elapsed c
 ProgressBy true j resumed from elapsed c = PostedInTime j resumed from elapsed c

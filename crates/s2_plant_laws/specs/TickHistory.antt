@@ -31,10 +31,11 @@ abbrev pub firing_after : ℕ → List Bool → ℕ
 firing_after f [] = f
 firing_after f (fired ∷ before) = if fired then (firing_after f before + 1) % REFRESH_PERIOD else firing_after f before
 
--- the firings of work in these ticks: those that do not refresh
+-- a tick that fires with number f does work where that number does not go to refresh
 abbrev pub work_at : Bool → ℕ → ℕ
 work_at fired f = if fired && nat_lt f refresh_from then 1 else 0
 
+-- the firings of work in a list of ticks, where the number of the first firing is f
 abbrev pub work_in : ℕ → List Bool → ℕ
 work_in f [] = 0
 work_in f (fired ∷ before) = work_in f before + work_at fired (firing_after f before)
@@ -44,5 +45,6 @@ pub record DoesWork (f : ℕ) (ticks : List Bool) : Type 0 where
   pub work : sure_work (length ticks) ≤ work_in f ticks
   pub within : (j : ℕ) → 1 ≤ j → span j ≤ length ticks → j ≤ work_in f ticks
 
+-- every fair clock does
 abbrev pub FairClockWorks : Type 0
 FairClockWorks = (f : ℕ) (ticks : List Bool) → f < REFRESH_PERIOD → IsFairHistory ticks → DoesWork f ticks

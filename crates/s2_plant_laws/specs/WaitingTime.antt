@@ -29,6 +29,7 @@ pub record WaitBounds (timer j skew : ℕ) (d : SkewData) : Type 0 where
       (clock_at d.clocks q).full ≡ true → (clock_at d.clocks p).posted ≤ (clock_at d.clocks q).posted + skew
   pub young : (p age : ℕ) → p < 3 → is_good d.tainted p ≡ true → (clock_at d.clocks p).full ≡ false → d.age ≡ Some age → age < skew
 
+-- bounded skew gives these bounds
 abbrev pub SkewBoundsWait : Type 0
 SkewBoundsWait = (timer j skew : ℕ) (d : SkewData) → span j ≤ j + skew → BoundedSkew timer j d → WaitBounds timer j skew d
 

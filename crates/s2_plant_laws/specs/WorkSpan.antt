@@ -3,10 +3,11 @@ use Rattle.std.specs.Prelude.{ℕ, ◌≡◌, ◌≤◌, ◌+◌, ◌-◌, ◌*�
 use Rattle.s2_clock.specs.declared.numbers.TheConstants.{WINDOW, MISSES_ALLOWED, REFRESH_PERIOD, REFRESH_FIRINGS, FRAME, LONGEST_FRAME}
 use Rattle.s2_plant_laws.specs.declared.numbers.TheConstants.{SKEW_BOUND, LONG_SKEW_BOUND}
 
--- into how many windows, and how many refresh periods, so many ticks fall, the last one begun
+-- into how many windows so many ticks fall, the last one begun
 abbrev pub windows_of : ℕ → ℕ
 windows_of ticks = (ticks + (WINDOW - 1)) / WINDOW
 
+-- into how many refresh periods, the last one begun
 abbrev pub periods_of : ℕ → ℕ
 periods_of ticks = (ticks + (REFRESH_PERIOD - 1)) / REFRESH_PERIOD
 
