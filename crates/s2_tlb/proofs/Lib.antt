@@ -1,0 +1,3 @@
+pub mod LowestMatch
+pub mod LookRows
+pub mod ZeroEntries

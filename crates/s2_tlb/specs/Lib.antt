@@ -1,0 +1,2 @@
+pub mod TranslationEntries
+pub mod TlbLookup
