@@ -1,0 +1,2 @@
+pub mod DeviceState
+pub mod DeviceRegisters
