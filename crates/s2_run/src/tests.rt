@@ -1,7 +1,7 @@
 //! The worked runs, over objects in memory.
 
 use crate::{Status, serve};
-use s2_io::{MemDesk, MemSink, MemSource};
+use s2_io::{MemDesk, MemSink, MemSource, QuietDesk, QuietSink, QuietSource};
 use std::process::Abort;
 use std::test::Fail;
 
@@ -69,7 +69,10 @@ struct Row<'a> {
     file: &'a [u8],
     desk_fails: &'a [u64],
     script: &'a [u8],
+    input_fails: &'a [u64],
     console_fails: &'a [u64],
+    report_piece: usize,
+    report_fails: &'a [u64],
     status: Status,
     console: &'a [u8],
     report: &'a [u8],
@@ -84,7 +87,10 @@ impl<'a> Row<'a> {
             file: &HELLO,
             desk_fails: &[],
             script,
+            input_fails: &[],
             console_fails: &[],
+            report_piece: 7,
+            report_fails: &[],
             status: Status::NotBuilt { line: 1 },
             console: b"",
             report: b"",
@@ -100,9 +106,12 @@ fn expect(rt: &(impl Abort + AllocGlobal), row: &Row) -> Result<(), Fail> {
         words.push(String::from_str(alloc, word)?)?;
     }
     let mut desk = MemDesk::new(alloc, "hello", row.file, row.desk_fails).map_err(|_| "memory")?;
-    let mut input = MemSource::new(alloc, row.script, 5, &[]).map_err(|_| "memory")?;
+    let mut input =
+        MemSource::new(alloc, row.script, 5, row.input_fails).map_err(|_| "memory")?;
     let mut console = MemSink::new(alloc, 64, 64, row.console_fails).map_err(|_| "memory")?;
-    let mut report = MemSink::new(alloc, 256, 7, &[]).map_err(|_| "memory")?;
+    assert!(rt; 0 < row.report_piece);
+    let mut report =
+        MemSink::new(alloc, 256, row.report_piece, row.report_fails).map_err(|_| "memory")?;
     let status = serve(
         alloc,
         words.as_slice(),
@@ -139,6 +148,31 @@ fn hello_writes_its_bytes_and_the_end_lines(rt: HostRuntime) -> Result<(), Fail>
 }
 
 #[test]
+fn hello_writes_the_same_over_objects_that_never_fail(rt: HostRuntime) -> Result<(), Fail> {
+    let alloc = rt.alloc();
+    let mut words = Vec::new(alloc);
+    for word in ["run", "hello"] {
+        words.push(String::from_str(alloc, word)?)?;
+    }
+    let mut desk = QuietDesk::new(alloc, "hello", &HELLO).map_err(|_| "memory")?;
+    let mut input = QuietSource::new(alloc, b"t 7 2000\n", 5).map_err(|_| "memory")?;
+    let mut console = QuietSink::new(alloc, 64, 64).map_err(|_| "memory")?;
+    let mut report = QuietSink::new(alloc, 256, 7).map_err(|_| "memory")?;
+    let status = serve(
+        alloc,
+        words.as_slice(),
+        &mut desk,
+        &mut input,
+        &mut console,
+        &mut report,
+    );
+    assert_eq!(rt; status, Status::Done);
+    assert_eq!(rt; console.taken(), b"hi\n".as_slice());
+    assert_eq!(rt; report.taken(), HELLO_REPORT);
+    Ok(())
+}
+
+#[test]
 fn a_program_of_many_rows_writes_what_c_prints(rt: HostRuntime) -> Result<(), Fail> {
     let row = Row {
         file: &DIVISION,
@@ -165,6 +199,68 @@ fn a_failing_write_and_a_failing_desk_end_the_run(rt: HostRuntime) -> Result<(),
         ..Row::hello("a desk that fails at its first call", b"t 7 2000\n")
     };
     expect(&rt, &first_call)
+}
+
+#[test]
+fn the_input_is_read_to_its_line_and_not_again_after_its_end(rt: HostRuntime) -> Result<(), Fail> {
+    // the line `t 7 8` without a line feed takes five reads for its bytes and one that tells the end
+    let rows = [
+        (b"t 7 8".as_slice(), 1, Status::ReadFault),
+        (b"t 7 8", 6, Status::ReadFault),
+        (b"t 7 8", 7, Status::Done),
+        (b"t 7 8\n", 6, Status::ReadFault),
+        (b"t 7 8\n", 7, Status::Done),
+    ];
+    for (script, failing, status) in rows {
+        let is_done = status == Status::Done;
+        let row = Row {
+            input_fails: &[failing],
+            status,
+            console: if is_done { b"hi\n" } else { b"" },
+            report: if is_done { HELLO_REPORT } else { b"" },
+            ..Row::hello("an input that fails at one read", script)
+        };
+        expect(&rt, &row)?;
+    }
+    Ok(())
+}
+
+#[test]
+fn a_report_line_is_one_write(rt: HostRuntime) -> Result<(), Fail> {
+    // the number of the write that fails, and what the report has then: the lines before it, whole
+    let rows = [
+        (1, Status::WriteFault, b"".as_slice()),
+        (2, Status::WriteFault, b"runs 8\n"),
+        (3, Status::WriteFault, b"runs 8\nticks 8\n"),
+        (4, Status::WriteFault, b"runs 8\nticks 8\nbytes 3\n"),
+        (5, Status::Done, HELLO_REPORT),
+    ];
+    for (failing, status, report) in rows {
+        let row = Row {
+            report_piece: 64,
+            report_fails: &[failing],
+            status,
+            console: b"hi\n",
+            report,
+            ..Row::hello("a report that fails at one write", b"t 7 2000\n")
+        };
+        expect(&rt, &row)?;
+    }
+    Ok(())
+}
+
+#[test]
+fn a_file_of_exactly_the_limit_is_loaded(rt: HostRuntime) -> Result<(), Fail> {
+    let mut file = vec![in rt.alloc(); 0u8; 4_194_304]?;
+    file[..116].copy_from_slice(&HELLO);
+    let row = Row {
+        file: file.as_slice(),
+        status: Status::Done,
+        console: b"hi\n",
+        report: HELLO_REPORT,
+        ..Row::hello("a file of exactly the limit", b"t 7 2000\n")
+    };
+    expect(&rt, &row)
 }
 
 #[test]
