@@ -1,0 +1,11 @@
+pub mod FormTests
+pub mod LiteralWords
+pub mod Decimals
+pub mod LineFields
+pub mod WholeForms
+pub mod TextSets
+pub mod TextLengths
+pub mod TableRows
+pub mod DisjointForms
+pub mod WholeNumbers
+pub mod ShortLines

@@ -1,0 +1,6 @@
+pub mod DecimalText
+pub mod HexText
+pub mod HeldLine
+pub mod LineGrammar
+pub mod LineTables
+pub mod LineReading

@@ -1,0 +1,130 @@
+-- Reading a line from left to right, which is how the readers of parts answer. What a line is says LineGrammar; this is only
+-- between that and the code. A reader answers a number and the bytes behind it, or how many bytes stand from the fault on.
+use Rattle.std.specs.Prelude.{◌≡◌, ℕ, zero, suc, ◌+◌, ◌-◌, ◌*◌, ◌≤◌, Bool, ◌&&◌, ◌||◌, List, [], ◌∷◌, ◌++◌, length, Option, Result, Ok, Err, nat_lt, nat_le, ◌==◌, if◌then◌else◌}
+use Rattle.s2_text.specs.declared.lines.TheConstants.{LINE_BYTES, HASH}
+use Rattle.s2_text.specs.declared.stops.Stop.{Stop}
+use Rattle.s2_text.specs.declared.stops.BadLine.{BadLine}
+use Rattle.s2_text.specs.LineGrammar.{Field, number, hex, letter, is_one_of, Part, word, field, IsTextOfOne, Reaches}
+use Rattle.s2_text.specs.LineTables.{LineRow, forms, SaysIn, ReadsRow, ReadsLine}
+
+-- one reading, and then one of the bytes behind it
+infixl 10 ◌>>=◌
+abbrev pub ◌>>=◌ : {A B : Type 0} → Result A ℕ → (A → Result B ℕ) → Result B ℕ
+(Ok x) >>= f = f x
+(Err e) >>= f = Err e
+
+-- a function's result, seen by view, is this reading
+abbrev pub IsReading : {X Y : Type 0} → (X → Y) → Result X Stop → Result Y ℕ → Type 0
+IsReading view (Ok x) read = read ≡ Ok (view x)
+IsReading view (Err e) read = read ≡ Err e.left
+
+-- ---- parts
+
+-- a word at the front: what is behind it
+abbrev pub word_at : List ℕ → List ℕ → Result (List ℕ) ℕ
+word_at [] bytes = Ok bytes
+word_at (w ∷ ws) [] = Err 0
+word_at (w ∷ ws) (b ∷ bytes) = if b == w then word_at ws bytes else Err (suc (length bytes))
+
+-- `0` to `9`
+abbrev pub is_digit : ℕ → Bool
+is_digit b = nat_le 48 b && nat_le b 57
+
+-- b is a digit, and with it the number v is still at most high
+abbrev pub goes_on : ℕ → ℕ → ℕ → Bool
+goes_on high v b = is_digit b && nat_le (v * 10 + (b - 48)) high
+
+-- the number that the next digits make of v, as long as it is at most high
+abbrev pub digits_from : ℕ → ℕ → List ℕ → ℕ × List ℕ
+digits_from high v [] = (v, [])
+digits_from high v (b ∷ bytes) = if goes_on high v b then digits_from high (v * 10 + (b - 48)) bytes else (v, b ∷ bytes)
+
+-- the number, where it is not below low
+abbrev pub at_least : ℕ → ℕ × List ℕ → Result (ℕ × List ℕ) ℕ
+at_least low x = if nat_lt x.0 low then Err (length x.1) else Ok x
+
+-- a decimal number at the front
+abbrev pub number_at : ℕ → ℕ → List ℕ → Result (ℕ × List ℕ) ℕ
+number_at low high [] = Err 0
+number_at low high (b ∷ bytes) =
+    if b == 48 then (if low == 0 then Ok (0, bytes) else Err (suc (length bytes)))
+    else (if goes_on high 0 b then at_least low (digits_from high (b - 48) bytes) else Err (suc (length bytes)))
+
+-- `0` to `9`, `a` to `f`
+abbrev pub is_hex : ℕ → Bool
+is_hex b = is_digit b || (nat_le 97 b && nat_le b 102)
+
+-- the number of a digit of base 16
+abbrev pub hex_value : ℕ → ℕ
+hex_value b = if is_digit b then b - 48 else b - 87
+
+-- so many digits of base 16 more, behind those that made v
+abbrev pub hex_from : ℕ → ℕ → List ℕ → Result (ℕ × List ℕ) ℕ
+hex_from zero v bytes = Ok (v, bytes)
+hex_from (suc n) v [] = Err 0
+hex_from (suc n) v (b ∷ bytes) = if is_hex b then hex_from n (v * 16 + hex_value b) bytes else Err (suc (length bytes))
+
+-- a letter of the list at the front
+abbrev pub letter_at : List ℕ → List ℕ → Result (ℕ × List ℕ) ℕ
+letter_at allowed [] = Err 0
+letter_at allowed (b ∷ bytes) = if is_one_of allowed b then Ok (b, bytes) else Err (suc (length bytes))
+
+-- a field at the front
+abbrev pub field_at : Field → List ℕ → Result (ℕ × List ℕ) ℕ
+field_at (number low high) bytes = number_at low high bytes
+field_at (hex n) bytes = hex_from n 0 bytes
+field_at (letter allowed) bytes = letter_at allowed bytes
+
+-- the end of the line
+abbrev pub end_at : List ℕ → Result (Unit {0}) ℕ
+end_at [] = Ok tt
+end_at (b ∷ bytes) = Err (suc (length bytes))
+
+-- ---- a form
+
+-- the numbers of the form's fields, behind those that were read before
+abbrev pub numbers_at : List Part → List ℕ → List ℕ → Result (List ℕ) ℕ
+numbers_at [] done bytes = end_at bytes >>= λ _. Ok done
+numbers_at (word w ∷ ps) done bytes = word_at w bytes >>= λ rest. numbers_at ps done rest
+numbers_at (field f ∷ ps) done bytes = field_at f bytes >>= λ x. numbers_at ps (done ++ x.0 ∷ []) x.1
+
+-- what the numbers say
+abbrev pub answer_of : {A : Type 0} → (List ℕ → A) → Result (List ℕ) ℕ → Result A ℕ
+answer_of says (Ok vs) = Ok (says vs)
+answer_of says (Err left) = Err left
+
+-- what a row's reader answers
+abbrev pub ReadsForm : {A : Type 0} → LineRow A → List ℕ → Result A Stop → Type 0
+ReadsForm row line result = IsReading (λ x. x) result (answer_of row.says (numbers_at row.form [] line))
+
+-- ---- a table
+
+-- of two readings: the one that is whole, or else the one that came further
+abbrev pub further_of : {A : Type 0} → Result A Stop → Result A Stop → Result A Stop
+further_of (Ok x) b = Ok x
+further_of (Err s) (Ok x) = Ok x
+further_of (Err s) (Err t) = Err (if nat_le s.left t.left then s else t)
+
+-- what is read, the line says, and reading stops where no text of the set goes on
+abbrev pub IsExact : {A : Type 0} → (A → List ℕ → Type 0) → (List ℕ → Type 0) → List ℕ → Result A Stop → Type 0
+IsExact Says S line (Ok x) = Says x line
+IsExact Says S line (Err stop) = (stop.left ≤ length line) × Reaches S line (length line - stop.left)
+
+-- what the readers of some rows answer together
+pub record ReadsRows {A : Type 0} (rows : List (LineRow A)) (line : List ℕ) (result : Result A Stop) : Type 0 where
+  pub is : IsExact (SaysIn rows) (IsTextOfOne (forms rows)) line result
+
+-- a remark
+abbrev pub remark_at : List ℕ → Result (Unit {0}) ℕ
+remark_at [] = Ok tt
+remark_at (b ∷ bytes) =
+    if b == HASH then (if nat_le (length bytes) (LINE_BYTES - 1) then Ok tt else Err (length bytes - (LINE_BYTES - 1)))
+    else Err (suc (length bytes))
+
+-- what was read of rows alone is what a reader of the table answers
+pub record AnswersRow {A : Type 0} (rows : List (LineRow A)) (line : List ℕ) (result : Result A BadLine) : Type 0 where
+  pub is : ReadsRow rows line result
+
+-- what was read of rows and of remarks is what a reader of both answers
+pub record AnswersLine {A : Type 0} (rows : List (LineRow A)) (line : List ℕ) (result : Result (Option A) BadLine) : Type 0 where
+  pub is : ReadsLine rows line result
