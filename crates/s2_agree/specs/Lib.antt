@@ -1,0 +1,2 @@
+pub mod AgreedCount
+pub mod CountBounds
