@@ -1,0 +1,3 @@
+pub mod EqualRequests
+pub mod Agreement
+pub mod VoterInvariant

@@ -1,0 +1,5 @@
+pub mod RequestEquality
+pub mod VoterState
+pub mod VoterCalls
+pub mod Verdicts
+pub mod VoterLaws

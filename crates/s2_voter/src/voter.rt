@@ -1,0 +1,248 @@
+//! The voter's state and its calls. A processor is 0, 1 or 2.
+
+ghost use Rattle.std.specs.Prelude.{◌≡◌, ◌<◌, true, false, IsSome, ◌↔◌, None};
+ghost use Rattle.std.specs.Option.{option_map_or};
+ghost use Rattle.s2_voter.specs.VoterState.{has_two_latches, is_member, latch_of};
+ghost use Rattle.s2_voter.specs.VoterCalls.{cleared_voter, latched_voter, new_voter, older, remaining_age, started_age, ticked_voter, with_member, without_member};
+ghost use Rattle.s2_voter.specs.Verdicts.{agreed_request, differing_member, done_with, is_differing, is_due, is_timed_out, is_unlatched, late_member, verdict_of};
+
+use crate::verdicts::{Verdict, agreed, holds};
+use arrayvec::ArrayVec;
+use s2_ports::{Posted, Request};
+use std::marker::Model;
+
+/// The age at which a decision is due although a member is not latched, in ticks since the second latch.
+///
+/// The number is this project's own.
+pub const DECISION_TIMER: u16 = 128;
+
+/// Who is a member, what the members ask for, and how many ticks ago the second of them asked.
+///
+/// Only members are latched.
+#[derive(Drop)]
+pub struct Voter {
+    members: [bool; 3],
+    latches: ArrayVec<Option<Posted>, 3>,
+    age: Option<u16>,
+}
+
+impl Model for Voter {
+    ghost use Rattle.s2_voter.specs.VoterState.{VoterState, IsVoter};
+
+    ghost Value = { VoterState };
+
+    ghost view = { λ v. record { members = v.members; latches = v.latches.items; age = v.age } };
+
+    ghost invariant = { λ v. IsVoter (record { members = v.members; latches = v.latches.items; age = v.age }) };
+}
+
+/// Whether two processors at least are latched.
+fn has_two(latches: &[Option<Posted>]) -> bool
+    ensures { result ≡ has_two_latches latches.now }
+{
+    latches.iter().filter(|latch| latch.is_some()).count() > 1
+}
+
+/// The age after a latch: the second latch sets an absent one to 0.
+fn started(two: bool, age: Option<u16>) -> Option<u16>
+    ensures { result ≡ started_age two age }
+{
+    match age {
+        Some(age) => Some(age),
+        None => { if two { Some(0) } else { None } }
+    }
+}
+
+/// The age after a latch is gone: it stays where two latches remain.
+fn remaining(two: bool, age: Option<u16>) -> Option<u16>
+    ensures { result ≡ remaining_age two age }
+{
+    if two { age } else { None }
+}
+
+/// The age one tick later.
+fn grown(age: Option<u16>) -> Option<u16>
+    ensures { result ≡ older age }
+{
+    match age {
+        Some(age) => {
+            if age < DECISION_TIMER {
+                Some(age + 1)
+            } else {
+                Some(age)
+            }
+        }
+        None => None,
+    }
+}
+
+/// Whether the timer has run out.
+fn timed_out(age: Option<u16>) -> bool
+    ensures { result ≡ is_timed_out age }
+{
+    match age {
+        Some(age) => age >= DECISION_TIMER,
+        None => false,
+    }
+}
+
+impl Voter {
+    /// Members 0, 1 and 2, without a latch.
+    pub fn new() -> Voter
+        ensures { result ≡ new_voter }
+    {
+        Voter {
+            members: [true; 3],
+            latches: ArrayVec::from([None; 3]),
+            age: None,
+        }
+    }
+
+    /// Latches what `p`, a member without a latch, asks for. The second latch sets an absent age to 0.
+    pub fn latch(&mut self, p: u8, posted: Posted)
+        requires processor { p < 3 }
+        requires member { is_member self.old p ≡ true }
+        requires unlatched { latch_of self.old p ≡ None }
+        ensures { self.new ≡ latched_voter p posted self.old }
+    {
+        self.latches[p as usize] = Some(posted);
+        self.age = started(has_two(self.latches.as_slice()), self.age);
+    }
+
+    /// Processor `p`, below 3, is no member, and its latch is dropped. Where fewer than two latches remain,
+    /// the age becomes absent.
+    pub fn drop_member(&mut self, p: u8)
+        requires { p < 3 }
+        ensures { self.new ≡ without_member p self.old }
+    {
+        self.members[p as usize] = false;
+        self.latches[p as usize] = None;
+        self.age = remaining(has_two(self.latches.as_slice()), self.age);
+    }
+
+    /// Processor `p`, below 3, is a member. A new member has no latch.
+    pub fn add_member(&mut self, p: u8)
+        requires { p < 3 }
+        ensures members { self.new ≡ with_member p self.old }
+        ensures unlatched { is_member self.old p ≡ false → latch_of self.new p ≡ None }
+    {
+        self.members[p as usize] = true;
+    }
+
+    /// No latch, and no age.
+    pub fn clear(&mut self)
+        ensures { self.new ≡ cleared_voter self.old }
+    {
+        self.latches = ArrayVec::from([None; 3]);
+        self.age = None;
+    }
+
+    /// One tick passes: a present age below the timer grows by one.
+    pub fn tick(&mut self)
+        ensures { self.new ≡ ticked_voter self.old }
+    {
+        self.age = grown(self.age);
+    }
+
+    /// The latch of `p`, which is below 3. `None` exactly where it has no latch.
+    pub fn latched(&self, p: u8) -> Option<Posted>
+        requires { p < 3 }
+        ensures { result ≡ latch_of self.now p }
+    {
+        self.latches[p as usize]
+    }
+
+    /// What the voter says: the first of these that holds.
+    ///
+    /// - `Waiting` where a member is not latched and the age is absent or below the timer;
+    /// - `Done` with the request that two latches share, and the name of the remaining member, if any;
+    /// - `Split` otherwise.
+    #[tactic(auto, using(crate::proofs::Agreement::verdict_decided))]
+    pub fn verdict(&self) -> Verdict
+        ensures { result ≡ verdict_of self.now }
+    {
+        if self.is_due() {
+            self.decision()
+        } else {
+            Verdict::Waiting
+        }
+    }
+
+    /// What is decided, where a decision is due.
+    fn decision(&self) -> Verdict
+        ensures { result
+            ≡ option_map_or (done_with self.now) (agreed_request self.now.latches) Verdict.Split }
+    {
+        match agreed(self.latches.as_slice()) {
+            Some(request) => self.done(request),
+            None => Verdict::Split,
+        }
+    }
+
+    /// The request is agreed, and the remaining member, if any, is named.
+    fn done(&self, request: Request) -> Verdict
+        ensures { result ≡ done_with self.now request }
+    {
+        Verdict::Done {
+            request,
+            differ: self.differing(&request),
+            late: self.late(),
+        }
+    }
+
+    /// The member whose latch holds another request, if any.
+    fn differing(&self, request: &Request) -> Option<u8>
+        ensures { result ≡ differing_member self.now request.now }
+    {
+        if self.is_differing(request, 0) {
+            Some(0)
+        } else if self.is_differing(request, 1) {
+            Some(1)
+        } else if self.is_differing(request, 2) {
+            Some(2)
+        } else {
+            None
+        }
+    }
+
+    /// The member without a latch, if any.
+    fn late(&self) -> Option<u8>
+        ensures { result ≡ late_member self.now }
+    {
+        if self.is_unlatched(0) {
+            Some(0)
+        } else if self.is_unlatched(1) {
+            Some(1)
+        } else if self.is_unlatched(2) {
+            Some(2)
+        } else {
+            None
+        }
+    }
+
+    /// Whether a decision is due.
+    fn is_due(&self) -> bool
+        ensures { result ≡ is_due self.now }
+    {
+        let waits = self.is_unlatched(0) || self.is_unlatched(1) || self.is_unlatched(2);
+        !waits || timed_out(self.age)
+    }
+
+    /// Whether `p` is a member without a latch.
+    fn is_unlatched(&self, p: u8) -> bool
+        requires { p < 3 }
+        ensures { result ≡ is_unlatched self.now p }
+    {
+        self.members[p as usize] && self.latches[p as usize].is_none()
+    }
+
+    /// Whether `p` is a member whose latch holds another request.
+    fn is_differing(&self, request: &Request, p: u8) -> bool
+        requires { p < 3 }
+        ensures { result ≡ is_differing self.now request.now p }
+    {
+        self.members[p as usize]
+            && self.latches[p as usize].is_some()
+            && !holds(&self.latches[p as usize], request)
+    }
+}
