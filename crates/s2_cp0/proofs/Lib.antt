@@ -1,0 +1,2 @@
+pub mod MaskBits
+pub mod KeptBits

@@ -1,0 +1,3 @@
+pub mod ControlRegisters
+pub mod ControlRegisterAccess
+pub mod ExceptionEntry
