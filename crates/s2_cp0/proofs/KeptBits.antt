@@ -1,5 +1,5 @@
 -- What each step of the registers keeps: no set bit but those of its mask.
-use Rattle.std.proofs.Common.{◌≡◌, ℕ, ◌+◌, ◌-◌, ◌*◌, ◌/◌, ◌%◌, ◌^◌, ◌<◌, refl, arith, subst}
+use Rattle.std.proofs.Common.{◌≡◌, ℕ, ◌+◌, ◌*◌, ◌/◌, ◌%◌, ◌^◌, ◌<◌, refl, arith, subst}
 use Rattle.std.specs.Prelude.{Bool, true, false, Option, Some, None, IfSome, bit_and, if◌then◌else◌}
 use Rattle.std.proofs.lemmas.Nat.Bits.{and_high}
 use Rattle.s2_base.specs.declared.masks.TheConstants.{ENTRY_HI_BITS, ENTRY_LO_BITS}

@@ -1,6 +1,6 @@
 -- Reading and writing the registers of coprocessor 0: MFC0 and MTC0, by a row for each register, TLBP and
 -- TLBR, and the words of the registers that hold one.
-use Rattle.std.specs.Prelude.{ℕ, ◌*◌, ◌+◌, ◌/◌, ◌%◌, ◌==◌, Bool, Some, None, bit_and, bit_or, if◌then◌else◌}
+use Rattle.std.specs.Prelude.{ℕ, ◌*◌, ◌==◌, Some, None, bit_and, bit_or, if◌then◌else◌}
 use Rattle.std.specs.Int.{bit_not, w32}
 use Rattle.std.specs.declared.option.Option.{Option}
 use Rattle.s2_base.specs.declared.masks.TheConstants.{ENTRY_HI_BITS, ENTRY_LO_BITS}
