@@ -1,0 +1,13 @@
+pub use Rattle.s2_base.specs.Words
+pub use Rattle.s2_base.specs.Map
+pub use Rattle.s2_tlb.specs.TranslationEntries
+pub use Rattle.s2_tlb.specs.TlbLookup
+pub use Rattle.s2_cp0.specs.ControlRegisters
+pub use Rattle.s2_cp0.specs.ControlRegisterAccess
+pub use Rattle.s2_cp0.specs.ExceptionEntry
+pub mod Cases
+pub mod GeneralRegisters
+pub mod Processor
+pub mod Exceptions
+pub mod Translation
+pub mod ExceptionState
