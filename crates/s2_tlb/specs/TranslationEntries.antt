@@ -4,7 +4,7 @@
 use Rattle.std.specs.Prelude.{◌≡◌, ℕ, ◌/◌, ◌%◌, ◌<◌, ◌==◌, Bool, ◌&&◌, ◌||◌, List, length, replicate, bit_and, slice_index_or, slice_set, Option, EachIndex, IsTrue, IsFalse}
 use Rattle.std.specs.List.{position}
 use Rattle.s2_base.specs.declared.masks.TheConstants.{ENTRY_HI_BITS, ENTRY_LO_BITS}
-use Rattle.s2_tlb.specs.declared.entries.TheConstants.{TLB_ENTRIES, PAGE_BYTES, ADDRESS_SPACES, ASID_UNIT, UNCACHED, DIRTY, VALID, GLOBAL}
+use Rattle.s2_tlb.specs.declared.entries.TheConstants.{TLB_ENTRIES, PAGE_BYTES, ADDRESS_SPACES, ASID_UNIT, DIRTY, VALID, GLOBAL}
 
 -- VPN: the number of the virtual page of an address, which hi holds at the same bits
 abbrev pub virtual_page : ℕ → ℕ
@@ -17,10 +17,6 @@ address_space hi = hi / ASID_UNIT % ADDRESS_SPACES
 -- PFN: the number of the page frame of an entry
 abbrev pub page_frame : ℕ × ℕ → ℕ
 page_frame entry = entry.1 / PAGE_BYTES
-
--- N: whether the page is not cached
-abbrev pub entry_is_uncached : ℕ × ℕ → Bool
-entry_is_uncached entry = entry.1 / UNCACHED % 2 == 1
 
 -- D: whether stores to the page are allowed
 abbrev pub entry_is_dirty : ℕ × ℕ → Bool
