@@ -1,8 +1,8 @@
 -- One processor with flat memories.
 use Rattle.std.specs.Prelude.{ℕ, List, None}
 use Rattle.std.specs.declared.option.Option.{Option}
-use Rattle.s2_machine.specs.Processor.{Processor, start_of}
-use Rattle.s2_machine.specs.Device.{Device, quiet_device}
+use Rattle.s2_cpu.specs.Processor.{Processor, start_of}
+use Rattle.s2_device.specs.DeviceState.{Device, quiet_device}
 
 -- the processor, its local list (local memory, then the boot store), the global list, the devices,
 -- and the halt value once it has halted

@@ -3,8 +3,10 @@
 //! The types below are the values that the definitions share with the code.
 #![tactic(auto)]
 
+mod ask;
 mod deliveries;
 mod step;
 
+pub use ask::Ask;
 pub use deliveries::Delivery;
 pub use step::Step;

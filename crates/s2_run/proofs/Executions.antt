@@ -3,15 +3,12 @@ use Rattle.std.proofs.Common.{◌≡◌, ℕ, zero, suc, ◌+◌, ◌-◌, ◌%�
 use Rattle.std.specs.Prelude.{Some, None, ◌^◌, ◌⊎◌, is_some}
 use Rattle.std.specs.declared.option.Option.{Option}
 use Rattle.std.proofs.lemmas.Bool.{cases_lt}
-use Rattle.s2_base.specs.Map.{place_at}
-use Rattle.s2_base.specs.declared.places.Place.{Place}
-use Rattle.s2_base.specs.declared.places.Place.TheVariants.{Local, Boot, Global, Device, Nowhere}
+use Rattle.s2_run.specs.BuiltCycles.{is_built}
 use Rattle.s2_machine.specs.Machine.{Machine}
-use Rattle.s2_machine.specs.CycleCases.{step_of}
-use Rattle.s2_machine.specs.Cycle.{cycle, cycle_by, store_cycle, is_built, is_built_step}
+use Rattle.s2_machine.specs.Cycle.{cycle}
+use Rattle.s2_machine.specs.R2000.{r2000}
 use Rattle.s2_machine.specs.MachineRun.{RunState, after_cycle, run_of_cycles}
-use Rattle.s2_machine.specs.declared.step.Step.{Step}
-use Rattle.s2_machine.specs.declared.step.Step.TheVariants.{Set, SetHiLo, Jump, Store, NotBuilt as NoStep}
+use Rattle.s2_core.proofs.CoreFacts.{r2000_core, each_cycle_counts}
 use Rattle.s2_elf.specs.MemoryImage.{MemoryImage}
 use Rattle.s2_run.specs.Transcript.{Outlet, Console, Report, for_outlet}
 use Rattle.s2_run.specs.ReportText.{end_lines}
@@ -55,28 +52,14 @@ run_after start limit (suc k) within r =
     let on : can_continue (after k start).machine ≡ true = goes (after k start).machine (r.running k (omega arith)) (r.built k (omega arith)) in
     run_after start limit k (omega arith) fewer ∙ (ap (λ (n : ℕ). bounded_run n (after k start)) one ∙ on_by (limit - suc k) (after k start) true on)
 
--- a cycle that is built counts
-counts_place : (m : Machine) (word : ℕ) (place : Place) → (store_cycle m word place).next.cpu.run ≡ (m.cpu.run + 1) % 2 ^ 64
-counts_place m word (Local i) = refl
-counts_place m word (Boot i) = refl
-counts_place m word (Global i) = refl
-counts_place m word (Device k) = refl
-counts_place m word Nowhere = refl
-
-counts_by : (m : Machine) (s : Step) → is_built_step s ≡ true → (cycle_by m s).next.cpu.run ≡ (m.cpu.run + 1) % 2 ^ 64
-counts_by m (Set reg value) h = refl
-counts_by m (SetHiLo hi lo) h = refl
-counts_by m (Jump target link) h = refl
-counts_by m (Store pa word mask) h = counts_place m word (place_at pa)
-counts_by m NoStep h = cc
-
+-- every cycle counts
 run_count : (start : RunState) (k : ℕ) → start.machine.cpu.run ≡ 0 → k < 2 ^ 64 → Runs start k → (after k start).machine.cpu.run ≡ k
 run_count start zero none small r = none
 run_count start (suc k) none small r =
     let fewer : Runs start k = record { built = λ j h. r.built j (omega arith); running = λ j h. r.running j (omega arith) } in
     let before : (after k start).machine.cpu.run ≡ k = run_count start k none (omega arith) fewer in
     let is = cycled_is (after k start) (after k start).machine.halt (r.running k (omega arith)) in
-    let one : (cycle (after k start).machine).next.cpu.run ≡ ((after k start).machine.cpu.run + 1) % 2 ^ 64 = counts_by (after k start).machine (step_of (after k start).machine.cpu (after k start).machine.local) (r.built k (omega arith)) in
+    let one : (cycle (after k start).machine).next.cpu.run ≡ ((after k start).machine.cpu.run + 1) % 2 ^ 64 = each_cycle_counts r2000 (after k start).machine r2000_core in
     ap (λ (q : RunState). q.machine.cpu.run) is ∙ (one ∙ (ap (λ (n : ℕ). (n + 1) % 2 ^ 64) before ∙ omega arith))
 
 -- a run that is the program's own after k cycles

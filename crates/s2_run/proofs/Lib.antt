@@ -1,3 +1,4 @@
+pub mod FlatCycles
 pub mod Pieces
 pub mod Lines
 pub mod Progress

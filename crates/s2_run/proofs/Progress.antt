@@ -6,14 +6,11 @@ use Rattle.std.proofs.Math.Seq.{take-append_seam}
 use Rattle.std.proofs.lemmas.List.{take-take}
 use Rattle.std.proofs.lemmas.Grind.{common_steps}
 use Rattle.s2_machine.specs.Machine.{Machine}
-use Rattle.s2_machine.specs.CycleCases.{step_of}
-use Rattle.s2_machine.specs.Cycle.{cycle, cycle_by, is_built, is_built_step}
+use Rattle.s2_machine.specs.Cycle.{cycle}
 use Rattle.s2_machine.specs.MachineRun.{RunState, after_cycle, after_cycle_unless, bytes_of}
-use Rattle.s2_machine.specs.declared.step.Step.{Step}
-use Rattle.s2_machine.specs.declared.step.Step.TheVariants.{Set, SetHiLo, Jump, Store, NotBuilt as NoStep}
 use Rattle.s2_io.specs.Sinks.{appended}
 use Rattle.s2_run.specs.declared.flat.CycleAnswer.TheVariants.{Run as RanCycle, NotBuilt}
-use Rattle.s2_run.specs.StepRanges.{cycle_answer}
+use Rattle.s2_run.specs.BuiltCycles.{is_built, next_built, cycle_answer}
 use Rattle.s2_run.specs.Execution.{can_continue, bounded_run, run_within}
 use Rattle.s2_run.proofs.Pieces.{appended_twice, appended_none}
 
@@ -116,18 +113,25 @@ running_start start limit before h = record {
   taken = sym (appended_none before);
 }
 
+-- what a cycle leaves, where it is built and where it is not
+built_next : (m : Machine) → is_built m ≡ true → next_built m ≡ (cycle m).next
+built_next m h = ap (λ (b : Bool). cond b (cycle m).next m) h
+
+unbuilt_next : (m : Machine) → is_built m ≡ false → next_built m ≡ m
+unbuilt_next m h = ap (λ (b : Bool). cond b (cycle m).next m) h
+
 -- one cycle of a run: it was built, and what it leaves
 record OneMore (start : Machine) (limit i : ℕ) (ran : RunState) (machine' : Machine) (out : Option ℕ) : Type 0 where
   pub bytes_are : (after_cycle ran).bytes ≡ ran.bytes ++ bytes_of out
   pub machine_is : (after_cycle ran).machine ≡ machine'
   pub rest : bounded_run (limit - (i + 1)) (after_cycle ran) ≡ run_within start limit
 
-one_more : (start : Machine) (limit i : ℕ) (ran : RunState) (m m' : Machine) (out : Option ℕ) → ran.machine ≡ m → i < limit → m.halt ≡ None → bounded_run (limit - i) ran ≡ run_within start limit → cycle_answer m (step_of m.cpu m.local) ≡ RanCycle out → m' ≡ (cycle m).next → OneMore start limit i ran m' out
+one_more : (start : Machine) (limit i : ℕ) (ran : RunState) (m m' : Machine) (out : Option ℕ) → ran.machine ≡ m → i < limit → m.halt ≡ None → bounded_run (limit - i) ran ≡ run_within start limit → cycle_answer m ≡ RanCycle out → m' ≡ next_built m → OneMore start limit i ran m' out
 one_more start limit i ran m m' out same below running rest says next =
     let running' : ran.machine.halt ≡ None = subst (λ (q : Machine). q.halt ≡ None) (sym same) running in
-    let says' : cycle_answer ran.machine (step_of ran.machine.cpu ran.machine.local) ≡ RanCycle out = subst (λ (q : Machine). cycle_answer q (step_of q.cpu q.local) ≡ RanCycle out) (sym same) says in
-    let next' : m' ≡ (cycle ran.machine).next = subst (λ (q : Machine). m' ≡ (cycle q).next) (sym same) next in
+    let says' : cycle_answer ran.machine ≡ RanCycle out = subst (λ (q : Machine). cycle_answer q ≡ RanCycle out) (sym same) says in
     let told = ran_says (is_built ran.machine) (cycle ran.machine).out out says' in
+    let next' : m' ≡ (cycle ran.machine).next = subst (λ (q : Machine). m' ≡ next_built q) (sym same) next ∙ built_next ran.machine told.0 in
     let is = cycled_is ran ran.machine.halt running' in
     let one : limit - i ≡ suc (limit - (i + 1)) = omega arith in
     record {
@@ -147,7 +151,7 @@ written_more ran out written written' bytes_are is step =
     omega arith
 
 -- a cycle was run, and the machine has not halted
-pub running_on : {start : Machine} {limit i written : ℕ} {m : Machine} {before now : Option (List ℕ)} (m' : Machine) (out : Option ℕ) (written' : ℕ) (now' : Option (List ℕ)) → Running start limit i written m before now → i < limit → cycle_answer m (step_of m.cpu m.local) ≡ RanCycle out → m' ≡ (cycle m).next → m'.halt ≡ None → now' ≡ appended now (bytes_of out) → written' ≡ written + length (bytes_of out) → Running start limit (i + 1) written' m' before now'
+pub running_on : {start : Machine} {limit i written : ℕ} {m : Machine} {before now : Option (List ℕ)} (m' : Machine) (out : Option ℕ) (written' : ℕ) (now' : Option (List ℕ)) → Running start limit i written m before now → i < limit → cycle_answer m ≡ RanCycle out → m' ≡ next_built m → m'.halt ≡ None → now' ≡ appended now (bytes_of out) → written' ≡ written + length (bytes_of out) → Running start limit (i + 1) written' m' before now'
 running_on {start} {limit} {i} {written} {m} {before} {now} m' out written' now' r below says next halt step count =
     let more = one_more start limit i r.ran m m' out r.machine_is below r.running r.rest says next in
     record {
@@ -169,26 +173,19 @@ ended_as start limit k written ran m before now rest over_now same written_is ta
     }
 
 -- a cycle was run, and the machine has halted
-pub finish_halted : {start : Machine} {limit i written : ℕ} {m : Machine} {before now : Option (List ℕ)} (m' : Machine) (out : Option ℕ) (written' : ℕ) (now' : Option (List ℕ)) → Running start limit i written m before now → i < limit → cycle_answer m (step_of m.cpu m.local) ≡ RanCycle out → m' ≡ (cycle m).next → is_some m'.halt ≡ true → now' ≡ appended now (bytes_of out) → written' ≡ written + length (bytes_of out) → Finished start limit written' m' before now'
+pub finish_halted : {start : Machine} {limit i written : ℕ} {m : Machine} {before now : Option (List ℕ)} (m' : Machine) (out : Option ℕ) (written' : ℕ) (now' : Option (List ℕ)) → Running start limit i written m before now → i < limit → cycle_answer m ≡ RanCycle out → m' ≡ next_built m → is_some m'.halt ≡ true → now' ≡ appended now (bytes_of out) → written' ≡ written + length (bytes_of out) → Finished start limit written' m' before now'
 finish_halted {start} {limit} {i} {written} {m} {before} {now} m' out written' now' r below says next halt step count =
     let more = one_more start limit i r.ran m m' out r.machine_is below r.running r.rest says next in
     let halt' : is_some (after_cycle r.ran).machine.halt ≡ true = ap (λ (q : Machine). is_some q.halt) more.machine_is ∙ halt in
     ended_as start limit (limit - (i + 1)) written' (after_cycle r.ran) m' before now' more.rest (over (after_cycle r.ran).machine halt') more.machine_is
     (written_more r.ran out written written' more.bytes_are r.written_is count) (taken_more r.ran out before now now' more.bytes_are r.taken step)
 
-unbuilt_next : (m : Machine) (s : Step) → is_built_step s ≡ false → (cycle_by m s).next ≡ m
-unbuilt_next m (Set reg value) h = cc
-unbuilt_next m (SetHiLo hi lo) h = cc
-unbuilt_next m (Jump target link) h = cc
-unbuilt_next m (Store pa word mask) h = cc
-unbuilt_next m NoStep h = refl
-
 -- the next cycle is not built
-pub finish_unbuilt : {start : Machine} {limit i written : ℕ} {m : Machine} {before now : Option (List ℕ)} (m' : Machine) → Running start limit i written m before now → cycle_answer m (step_of m.cpu m.local) ≡ NotBuilt → m' ≡ (cycle m).next → Finished start limit written m' before now
+pub finish_unbuilt : {start : Machine} {limit i written : ℕ} {m : Machine} {before now : Option (List ℕ)} (m' : Machine) → Running start limit i written m before now → cycle_answer m ≡ NotBuilt → m' ≡ next_built m → Finished start limit written m' before now
 finish_unbuilt {start} {limit} {i} {written} {m} {before} {now} m' r says next =
     let none : is_built m ≡ false = not_built_says (is_built m) (cycle m).out says in
     let none' : is_built r.ran.machine ≡ false = subst (λ (q : Machine). is_built q ≡ false) (sym r.machine_is) none in
-    let same : r.ran.machine ≡ m' = r.machine_is ∙ sym (next ∙ unbuilt_next m (step_of m.cpu m.local) none) in
+    let same : r.ran.machine ≡ m' = r.machine_is ∙ sym (next ∙ unbuilt_next m none) in
     ended_as start limit (limit - i) written r.ran m' before now r.rest (stuck r.ran.machine none') same r.written_is r.taken
 
 -- all cycles were run
@@ -203,7 +200,7 @@ finish_limit {start} {limit} {i} {written} {m} {before} {now} r all =
     }
 
 -- a cycle was run, and its byte did not go
-pub broken_off : {start : Machine} {limit i written : ℕ} {m : Machine} {before now : Option (List ℕ)} (m' : Machine) (out : Option ℕ) (cut : ℕ) (now' : Option (List ℕ)) → Running start limit i written m before now → i < limit → cycle_answer m (step_of m.cpu m.local) ≡ RanCycle out → m' ≡ (cycle m).next → cut ≡ 0 → 0 < length (bytes_of out) → now' ≡ appended now (take cut (bytes_of out)) → Broken start limit written before now'
+pub broken_off : {start : Machine} {limit i written : ℕ} {m : Machine} {before now : Option (List ℕ)} (m' : Machine) (out : Option ℕ) (cut : ℕ) (now' : Option (List ℕ)) → Running start limit i written m before now → i < limit → cycle_answer m ≡ RanCycle out → m' ≡ next_built m → cut ≡ 0 → 0 < length (bytes_of out) → now' ≡ appended now (take cut (bytes_of out)) → Broken start limit written before now'
 broken_off {start} {limit} {i} {written} {m} {before} {now} m' out cut now' r below says next zero_cut some step =
     let more = one_more start limit i r.ran m m' out r.machine_is below r.running r.rest says next in
     let grows = run_grows (limit - (i + 1)) (after_cycle r.ran) in

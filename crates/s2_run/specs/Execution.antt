@@ -2,7 +2,7 @@
 use Rattle.std.specs.Prelude.{ℕ, zero, suc, ◌≡◌, ◌<◌, ◌≤◌, ◌&&◌, ◌⊎◌, Bool, true, false, List, [], ◌++◌, length, min, is_none, Some, None, if◌then◌else◌}
 use Rattle.std.specs.declared.option.Option.{Option}
 use Rattle.s2_machine.specs.Machine.{Machine, started}
-use Rattle.s2_machine.specs.Cycle.{is_built}
+use Rattle.s2_run.specs.BuiltCycles.{is_built}
 use Rattle.s2_machine.specs.MachineRun.{RunState, after_cycle, single_run}
 use Rattle.s2_elf.specs.MemoryImage.{MemoryImage}
 use Rattle.s2_run.specs.declared.limits.TheConstants.{FIRST_REFRESH}

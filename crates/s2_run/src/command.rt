@@ -23,7 +23,7 @@ use crate::output::{Cut, put, put_four};
 use crate::report::{count_line, halt_line};
 use crate::script::{read_line, read_ticks};
 use crate::status::Status;
-use s2_elf::{ElfFail, read_elf};
+use s2_elf::ElfFail;
 use s2_io::{Desk, DeskFault, Failed, Sink, Source};
 use std::alloc::Global;
 
@@ -136,11 +136,8 @@ fn run_file<S: Source, C: Sink, R: Sink>(
     ensures whole { (s : List ℕ) → S.left input.old ≡ Some s → TakesWhole result
         → S.left input.new ≡ Some (drop (first_taken s) s) }
 {
-    match read_elf(alloc, bytes) {
-        Ok(image) => {
-            let mut machine = FlatMachine::start(image);
-            run_script(&mut machine, input, console, report)
-        }
+    match FlatMachine::load(alloc, bytes) {
+        Ok(mut machine) => run_script(&mut machine, input, console, report),
         Err(ElfFail::Memory) => Status::Memory,
         Err(ElfFail::NotBuilt) => Status::NotBuilt { line: 0 },
         Err(ElfFail::Fault(_)) => Status::NotBuilt { line: 0 },

@@ -2,14 +2,12 @@
 #![tactic(auto)]
 
 mod command;
-mod cpu;
 mod cycles;
 mod dispatch;
 mod flat;
 mod limits;
 mod output;
 mod report;
-mod rows;
 mod script;
 mod status;
 

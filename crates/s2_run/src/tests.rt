@@ -106,12 +106,12 @@ fn expect(rt: &(impl Abort + AllocGlobal), row: &Row) -> Result<(), Fail> {
         words.push(String::from_str(alloc, word)?)?;
     }
     let mut desk = MemDesk::new(alloc, "hello", row.file, row.desk_fails).map_err(|_| "memory")?;
-    let mut input =
-        MemSource::new(alloc, row.script, 5, row.input_fails).map_err(|_| "memory")?;
+    let mut input = MemSource::new(alloc, row.script, 5, row.input_fails).map_err(|_| "memory")?;
     let mut console = MemSink::new(alloc, 64, 64, row.console_fails).map_err(|_| "memory")?;
     assert!(rt; 0 < row.report_piece);
-    let mut report =
-        MemSink::new(alloc, 256, row.report_piece, row.report_fails).map_err(|_| "memory")?;
+    let mut report = MemSink::new(alloc, 256, row.report_piece, row.report_fails).map_err(
+        |_| "memory",
+    )?;
     let status = serve(
         alloc,
         words.as_slice(),

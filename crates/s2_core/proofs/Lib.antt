@@ -1,0 +1,3 @@
+pub mod CaseOrder
+pub mod ForeignUnits
+pub mod CoreFacts

@@ -1,0 +1,103 @@
+//! The cycle, in its parts.
+
+ghost use Rattle.std.specs.Prelude.{◌≡◌, ◌≢◌, ◌<◌, length};
+ghost use Rattle.s2_machine.specs.LocalWork.{ask_of, ask_of_step, after_turn, local_after_turn, marks_after_turn, after_finish, read_by, local_after, marks_after};
+ghost use Rattle.s2_machine.specs.StepRanges.{IsSound, HasMask};
+ghost use Rattle.s2_machine.specs.WriteBack.{after_step};
+ghost use Rattle.s2_core.specs.Working.{unless_asked};
+
+use crate::instruction_rows::step;
+use crate::local_work::{ask_of, read, write};
+use crate::write_back::write_back;
+use s2_base::LOCAL_WORDS;
+use s2_cpu::Cpu;
+use s2_machine::{Ask, Step};
+use s2_ports::Reply;
+use s2_store::Store;
+
+/// What the next cycle asks of the outside: nothing, or an access of global memory or a device.
+///
+/// The store has `LOCAL_WORDS` words: local memory, and then the boot store. The request has the physical
+/// address of a word, a multiple of 4, and the run count before the cycle; a load asks for the whole word,
+/// and a store has its bytes in their places under the mask. Source: this project's own.
+pub fn ask<S: Store>(cpu: &Cpu, store: &S) -> Ask
+    requires { length (S.words store.now) ≡ LOCAL_WORDS }
+    ensures ask { result ≡ ask_of cpu.now (S.words store.now) }
+    ensures mask { HasMask result }
+{
+    ask_of(cpu, step(cpu, store))
+}
+
+/// A step on the processor and the local list.
+fn apply<S: Store>(cpu: &mut Cpu, store: &mut S, step: Step)
+    requires step { IsSound step }
+    requires words { length (S.words store.old) ≡ LOCAL_WORDS }
+    ensures cpu { cpu.new ≡ after_step cpu.old step (read_by (S.words store.old) step) }
+    ensures words { S.words store.new ≡ local_after (S.words store.old) step }
+    ensures size { length (S.words store.new) ≡ length (S.words store.old) }
+    ensures marks { S.marks store.new ≡ marks_after (S.marks store.old) step }
+    ensures rest { S.rest store.new ≡ S.rest store.old }
+{
+    let word = read(store, step);
+    write(store, step);
+    write_back(cpu, step, word);
+}
+
+/// Runs the next cycle, where it asks nothing of the outside.
+///
+/// The store has `LOCAL_WORDS` words; a word of local memory that is stored marks its page.
+pub fn turn<S: Store>(cpu: &mut Cpu, store: &mut S)
+    requires words { length (S.words store.old) ≡ LOCAL_WORDS }
+    requires local { ask_of cpu.old (S.words store.old) ≡ Ask.Local }
+    ensures cpu { cpu.new ≡ after_turn cpu.old (S.words store.old) }
+    ensures words { S.words store.new ≡ local_after_turn cpu.old (S.words store.old) }
+    ensures size { length (S.words store.new) ≡ length (S.words store.old) }
+    ensures marks { S.marks store.new ≡ marks_after_turn cpu.old (S.words store.old) (S.marks store.old) }
+    ensures rest { S.rest store.new ≡ S.rest store.old }
+{
+    let step = step(cpu, store);
+    apply(cpu, store, step);
+}
+
+/// Ends the next cycle, which asked for an access, with the access's answer: the word that a load reads, and
+/// the interrupt lines of the devices, below 4. The store has `LOCAL_WORDS` words and stays as it is.
+pub fn finish<S: Store>(cpu: &mut Cpu, store: &mut S, reply: Reply)
+    requires words { length (S.words store.old) ≡ LOCAL_WORDS }
+    requires outside { ask_of cpu.old (S.words store.old) ≢ Ask.Local }
+    requires lines { reply.lines < 4 }
+    ensures cpu { cpu.new ≡ after_finish cpu.old (S.words store.old) reply.word reply.lines }
+    ensures words { S.words store.new ≡ S.words store.old }
+    ensures marks { S.marks store.new ≡ S.marks store.old }
+    ensures rest { S.rest store.new ≡ S.rest store.old }
+{
+    let step = step(cpu, store);
+    write_back(cpu, step, reply.word);
+    cpu.lines = reply.lines;
+}
+
+/// Runs the next cycle where it asks nothing of the outside; where it asks, it gives the request and changes
+/// nothing. It fetches and decodes once.
+///
+/// The store has `LOCAL_WORDS` words.
+pub fn work<S: Store>(cpu: &mut Cpu, store: &mut S) -> Ask
+    requires { length (S.words store.old) ≡ LOCAL_WORDS }
+    ensures ask { result ≡ ask_of cpu.old (S.words store.old) }
+    ensures mask { HasMask result }
+    ensures cpu { cpu.new ≡ unless_asked result (after_turn cpu.old (S.words store.old)) cpu.old }
+    ensures words { S.words store.new
+        ≡ unless_asked result (local_after_turn cpu.old (S.words store.old)) (S.words store.old) }
+    ensures size { length (S.words store.new) ≡ length (S.words store.old) }
+    ensures marks { S.marks store.new
+        ≡ unless_asked result (marks_after_turn cpu.old (S.words store.old) (S.marks store.old)) (S.marks store.old) }
+    ensures rest { S.rest store.new ≡ S.rest store.old }
+{
+    let step = step(cpu, store);
+    let asked = ask_of(cpu, step);
+    match asked {
+        Ask::Local => {
+            apply(cpu, store, step);
+            Ask::Local
+        }
+        Ask::Outside(request) => Ask::Outside(request),
+    }
+}
