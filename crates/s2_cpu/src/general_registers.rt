@@ -1,7 +1,7 @@
 //! The general registers.
 
 ghost use Rattle.std.specs.Prelude.{◌≡◌, ◌<◌, slice_index};
-ghost use Rattle.s2_cpu.specs.GeneralRegisters.{zero_registers, register_set};
+ghost use Rattle.s2_cpu.specs.GeneralRegisters.{zero_registers, register_set, AreGeneralRegisters};
 
 use std::marker::Model;
 
@@ -53,5 +53,13 @@ impl Regs {
         if n != 0 {
             self.words[n as usize] = v;
         }
+    }
+
+    /// What the general registers are: 32 words, of which the first is 0. It does nothing, and tells a caller
+    /// so of the registers that it holds.
+    pub fn well_formed(&self)
+        ensures { AreGeneralRegisters self.now }
+    {
+        let _words = &self.words;
     }
 }
