@@ -1,0 +1,4 @@
+pub mod WordLists
+pub mod Restoration
+pub mod StateKept
+pub mod SingleWords
