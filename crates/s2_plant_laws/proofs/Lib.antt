@@ -7,3 +7,9 @@ pub mod SkewBounds
 pub mod TickBounds
 pub mod Waits
 pub mod Requests
+pub mod Containment
+pub mod CopyItems
+pub mod CopiedPages
+pub mod RepairNumbers
+pub mod RepairTicks
+pub mod VoterTimer

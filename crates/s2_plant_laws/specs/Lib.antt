@@ -5,3 +5,10 @@ pub mod ClockPace
 pub mod BoundedSkew
 pub mod WaitingTime
 pub mod NextRequest
+pub mod DirtyPages
+pub mod LocalReplicas
+pub mod CopiedPages
+pub mod CopySteps
+pub mod RepairProgress
+pub mod RepairBound
+pub mod VoterTimer

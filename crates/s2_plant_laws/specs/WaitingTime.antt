@@ -1,7 +1,8 @@
 -- Waiting times: what bounded skew says of how long a request waits.
 use Rattle.std.specs.Prelude.{ℕ, ◌≡◌, ◌<◌, ◌≤◌, ◌+◌, ◌-◌, Bool, true, false, Some}
 use Rattle.s2_clock.specs.declared.numbers.TheConstants.{FRAME}
-use Rattle.s2_plant_laws.specs.declared.numbers.TheConstants.{SKEW_BOUND, TIMER_BOUND, STATED_WAIT}
+use Rattle.s2_voter.specs.declared.voter.TheConstants.{DECISION_TIMER}
+use Rattle.s2_plant_laws.specs.declared.numbers.TheConstants.{SKEW_BOUND, STATED_WAIT}
 use Rattle.s2_plant_laws.specs.WorkSpan.{span, frame_work}
 use Rattle.s2_plant_laws.specs.BoundedSkew.{SkewData, clock_at, is_good, since_resume, BoundedSkew, AllAsk, IsTickOf}
 
@@ -36,8 +37,8 @@ SkewBoundsWait = (timer j skew : ℕ) (d : SkewData) → span j ≤ j + skew →
 -- The stated wait, with frames of up to FRAME run cycles: a request waits for less than it between ticks, and
 -- for no longer than it at the verdict.
 pub record StatedWait : Type 0 where
-  pub sum : SKEW_BOUND + TIMER_BOUND ≡ STATED_WAIT
-  pub verdict : (j p : ℕ) (asks : ℕ → Bool) (mask : ℕ) (old new : SkewData) → j ≤ frame_work FRAME → AllAsk asks j old → IsTickOf TIMER_BOUND asks mask old new →
-      BoundedSkew TIMER_BOUND j old → p < 3 → is_good new.tainted p ≡ true → (clock_at new.clocks p).full ≡ true → new.ticks - (clock_at new.clocks p).posted ≤ STATED_WAIT
-  pub between : (j p : ℕ) (d : SkewData) → j ≤ frame_work FRAME → BoundedSkew TIMER_BOUND j d → p < 3 → is_good d.tainted p ≡ true →
+  pub sum : SKEW_BOUND + DECISION_TIMER ≡ STATED_WAIT
+  pub verdict : (j p : ℕ) (asks : ℕ → Bool) (mask : ℕ) (old new : SkewData) → j ≤ frame_work FRAME → AllAsk asks j old → IsTickOf DECISION_TIMER asks mask old new →
+      BoundedSkew DECISION_TIMER j old → p < 3 → is_good new.tainted p ≡ true → (clock_at new.clocks p).full ≡ true → new.ticks - (clock_at new.clocks p).posted ≤ STATED_WAIT
+  pub between : (j p : ℕ) (d : SkewData) → j ≤ frame_work FRAME → BoundedSkew DECISION_TIMER j d → p < 3 → is_good d.tainted p ≡ true →
       (clock_at d.clocks p).full ≡ true → d.ticks - (clock_at d.clocks p).posted < STATED_WAIT

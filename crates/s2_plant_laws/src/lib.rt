@@ -9,12 +9,22 @@ ghost use Rattle.s2_plant_laws.specs.ClockPace.{TickBoundsClock};
 ghost use Rattle.s2_plant_laws.specs.FairClocks.{FairTicks};
 ghost use Rattle.s2_plant_laws.specs.NextRequest.{RequestComes, RequestIsLastWork};
 ghost use Rattle.s2_plant_laws.specs.TickHistory.{FairClockWorks};
+ghost use Rattle.s2_plant_laws.specs.VoterTimer.{VoterTimer};
 ghost use Rattle.s2_plant_laws.specs.WaitingTime.{VerdictBoundsWait, SkewBoundsWait, StatedWait};
 ghost use Rattle.s2_plant_laws.specs.WorkSpan.{SpanIsLeast, SpanBounds};
 
 mod numbers;
+mod repair;
 
-pub use numbers::{LONG_SKEW_BOUND, SKEW_BOUND, STATED_REINTEGRATION, STATED_WAIT, TIMER_BOUND};
+pub use numbers::{
+    LONG_DECISION_TIMER, LONG_SKEW_BOUND, LONG_STATED_REINTEGRATION, SKEW_BOUND,
+    STATED_REINTEGRATION, STATED_WAIT,
+};
+pub use repair::{
+    copied_pages_after_act, copied_pages_after_run, copied_pages_after_sync,
+    copied_pages_after_word, copied_pages_at_start, lists_equal_at_last_word, next_sync_moves,
+    repair_counts, repair_progresses, stated_reintegration, stores_mark_pages, words_of_sync,
+};
 
 /// The span of j firings of work is the least number of ticks that hold them on every fair clock.
 pub fn span_is_least()
@@ -70,6 +80,11 @@ pub fn skew_bounds_wait()
 /// The stated wait of 210 ticks is the skew and the timer together, and no request waits longer.
 pub fn stated_wait()
     ensures { StatedWait }
+{}
+
+/// The age and the timer of these laws are the voter's.
+pub fn voter_timer()
+    ensures { VoterTimer }
 {}
 
 /// Where a processor asks for the outside within so many cycles, there is a first request.

@@ -1,0 +1,5 @@
+use Rattle.s2_plant_laws.proofs.CopiedPages.{copied_pages_at_start}
+use Rattle.s2_plant_laws.proofs.repair.copied_pages_at_start.Goals as goal
+
+pub returns : goal.returns
+returns c = copied_pages_at_start
