@@ -105,13 +105,11 @@ fn expect(rt: &(impl Abort + AllocGlobal), row: &Row) -> Result<(), Fail> {
     for word in row.words {
         words.push(String::from_str(alloc, word)?)?;
     }
-    let mut desk = MemDesk::new(alloc, "hello", row.file, row.desk_fails).map_err(|_| "memory")?;
-    let mut input = MemSource::new(alloc, row.script, 5, row.input_fails).map_err(|_| "memory")?;
-    let mut console = MemSink::new(alloc, 64, 64, row.console_fails).map_err(|_| "memory")?;
+    let mut desk = MemDesk::new(alloc, "hello", row.file, row.desk_fails)?;
+    let mut input = MemSource::new(alloc, row.script, 5, row.input_fails)?;
+    let mut console = MemSink::new(alloc, 64, 64, row.console_fails)?;
     assert!(rt; 0 < row.report_piece);
-    let mut report = MemSink::new(alloc, 256, row.report_piece, row.report_fails).map_err(
-        |_| "memory",
-    )?;
+    let mut report = MemSink::new(alloc, 256, row.report_piece, row.report_fails)?;
     let status = serve(
         alloc,
         words.as_slice(),
@@ -154,10 +152,10 @@ fn hello_writes_the_same_over_objects_that_never_fail(rt: HostRuntime) -> Result
     for word in ["run", "hello"] {
         words.push(String::from_str(alloc, word)?)?;
     }
-    let mut desk = QuietDesk::new(alloc, "hello", &HELLO).map_err(|_| "memory")?;
-    let mut input = QuietSource::new(alloc, b"t 7 2000\n", 5).map_err(|_| "memory")?;
-    let mut console = QuietSink::new(alloc, 64, 64).map_err(|_| "memory")?;
-    let mut report = QuietSink::new(alloc, 256, 7).map_err(|_| "memory")?;
+    let mut desk = QuietDesk::new(alloc, "hello", &HELLO)?;
+    let mut input = QuietSource::new(alloc, b"t 7 2000\n", 5)?;
+    let mut console = QuietSink::new(alloc, 64, 64)?;
+    let mut report = QuietSink::new(alloc, 256, 7)?;
     let status = serve(
         alloc,
         words.as_slice(),
