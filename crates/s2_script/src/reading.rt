@@ -1,7 +1,7 @@
 //! The reader of a script's lines: a function for each row of the table.
 
 ghost use Rattle.std.specs.Prelude.{◌≡◌, Ok, Some, None};
-ghost use Rattle.s2_text.specs.LineReading.{IsReading, letter_at, ReadsForm, ReadsRows};
+ghost use Rattle.s2_text.specs.LineReading.{IsReading, letter_reading, ReadsForm, ReadsRows};
 ghost use Rattle.s2_text.specs.LineTables.{ReadsLine, SaysIn, IsRemark};
 ghost use Rattle.s2_script.specs.declared.entry.Entry.{Entry};
 ghost use Rattle.s2_script.specs.ScriptLines.{letter_of, kind_letters, ticks_row, tick_row, key_row, poke_row, local_row, drive_row, mute_row, remove_row, revive_row, dead_row, flip_row, script_rows};
@@ -16,7 +16,7 @@ use s2_text::{
 
 /// Reads the letter of a kind of request.
 fn kind_letter(bytes: &[u8]) -> Result<(Kind, &[u8]), Stop>
-    ensures { IsReading (λ x. (letter_of x.0, x.1.now)) result (letter_at kind_letters bytes.now) }
+    ensures { IsReading (λ x. (letter_of x.0, x.1.now)) result (letter_reading kind_letters bytes.now) }
 {
     let Some((first, rest)) = bytes.split_first() else {
         return Err(Stop { left: 0 });

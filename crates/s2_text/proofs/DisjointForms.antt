@@ -4,7 +4,7 @@ use Rattle.std.specs.Prelude.{◌&&◌, ◌==◌, if◌then◌else◌}
 use Rattle.std.proofs.lemmas.Bool.Decides.{nat_tests}
 use Rattle.s2_text.specs.LineGrammar.{Field, number, hex, letter, Part, word, field, field_text, FitsField, Fits, spelling}
 use Rattle.s2_text.specs.LineGrammar.{IsTextOfOne}
-use Rattle.s2_text.specs.LineReading.{field_at}
+use Rattle.s2_text.specs.LineReading.{field_reading}
 use Rattle.s2_text.proofs.FormTests.{is_readable}
 use Rattle.s2_text.specs.LineTables.{LineRow, forms, SaysIn}
 use Rattle.s2_text.proofs.TextSets.{same_numbers}
@@ -66,9 +66,9 @@ cancel (w ∷ ws) x y e = cancel ws x y (let p : ws ++ x ≡ ws ++ y = cc in p)
 ok_pair : (r : Result (ℕ × List ℕ) ℕ) (p q : ℕ × List ℕ) → r ≡ Ok p → r ≡ Ok q → p ≡ q
 ok_pair r p q a b = cc
 
-field_same : (f : Field) (u v : ℕ) (x y : List ℕ) → field_at f (field_text f u ++ x) ≡ Ok (u, x) → field_at f (field_text f v ++ y) ≡ Ok (v, y) → field_text f u ++ x ≡ field_text f v ++ y → x ≡ y
+field_same : (f : Field) (u v : ℕ) (x y : List ℕ) → field_reading f (field_text f u ++ x) ≡ Ok (u, x) → field_reading f (field_text f v ++ y) ≡ Ok (v, y) → field_text f u ++ x ≡ field_text f v ++ y → x ≡ y
 field_same f u v x y a b e =
-    ap (λ (z : ℕ × List ℕ). z.1) (ok_pair (field_at f (field_text f u ++ x)) (u, x) (v, y) a (ap (λ (z : List ℕ). field_at f z) e ∙ b))
+    ap (λ (z : ℕ × List ℕ). z.1) (ok_pair (field_reading f (field_text f u ++ x)) (u, x) (v, y) a (ap (λ (z : List ℕ). field_reading f z) e ∙ b))
 
 pub apart_texts : (ps qs : List Part) (us vs : List ℕ) → is_readable ps ≡ true → is_readable qs ≡ true → apart ps qs ≡ true → Fits ps us → Fits qs vs → spelling ps us ≡ spelling qs vs → ⊥
 apart_texts [] qs us vs ok too e a b same = absurd cc

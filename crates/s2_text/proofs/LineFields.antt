@@ -7,7 +7,7 @@ use Rattle.std.proofs.lemmas.Bool.Decides.{nat_tests}
 use Rattle.std.proofs.Math.Nat.{div-div-eq-div-mul, lt-div-mul-add}
 use Rattle.std.proofs.lemmas.Nat.{div-mul-add}
 use Rattle.s2_text.specs.LineGrammar.{Field, number, hex, letter, is_one_of, field_text, FitsField}
-use Rattle.s2_text.specs.LineReading.{goes_on, digits_from, number_at, field_at, is_hex, hex_value, hex_from}
+use Rattle.s2_text.specs.LineReading.{goes_on, digits_from, number_reading, field_reading, is_hex, hex_value, hex_reading}
 use Rattle.s2_text.proofs.FormTests.{is_readable_field}
 use Rattle.s2_text.specs.HexText.{hex_text, hex_digit}
 use Rattle.s2_text.proofs.LiteralWords.{cases}
@@ -17,22 +17,22 @@ use Rattle.s2_text.proofs.Decimals.{value_from, decimal_on, decimal_digits, digi
 pub record FieldMatch (f : Field) (bytes : List ℕ) : Type 0 where
   pub value : ℕ
   pub rest : List ℕ
-  pub read : field_at f bytes ≡ Ok (value, rest)
+  pub read : field_reading f bytes ≡ Ok (value, rest)
   pub parts : bytes ≡ field_text f value ++ rest
   pub fits : FitsField f value
-  pub near : (b : ℕ) (more new : List ℕ) → rest ≡ b ∷ more → field_at f (field_text f value ++ b ∷ new) ≡ Ok (value, b ∷ new)
+  pub near : (b : ℕ) (more new : List ℕ) → rest ≡ b ∷ more → field_reading f (field_text f value ++ b ∷ new) ≡ Ok (value, b ∷ new)
 
 -- Reading stopped at back: what was read so far is a front of some text, and of back only the first byte matters.
 pub record FieldMismatch (f : Field) (bytes : List ℕ) : Type 0 where
   pub front : List ℕ
   pub back : List ℕ
-  pub read : field_at f bytes ≡ Err (length back)
+  pub read : field_reading f bytes ≡ Err (length back)
   pub parts : bytes ≡ front ++ back
   pub some : ℕ
   pub fits : FitsField f some
   pub rest : List ℕ
   pub text : field_text f some ≡ front ++ rest
-  pub near : (b : ℕ) (more new : List ℕ) → back ≡ b ∷ more → field_at f (front ++ b ∷ new) ≡ Err (suc (length new))
+  pub near : (b : ℕ) (more new : List ℕ) → back ≡ b ∷ more → field_reading f (front ++ b ∷ new) ≡ Err (suc (length new))
 
 abbrev pub Reads : Field → List ℕ → Type 0
 Reads f bytes = FieldMatch f bytes ⊎ FieldMismatch f bytes
@@ -50,7 +50,7 @@ is_range low high e = record {
 }
 
 -- where the first byte is refused
-stop_here : (low high b : ℕ) (bytes : List ℕ) → low ≤ high → ((new : List ℕ) → number_at low high (b ∷ new) ≡ Err (suc (length new))) → FieldMismatch (number low high) (b ∷ bytes)
+stop_here : (low high b : ℕ) (bytes : List ℕ) → low ≤ high → ((new : List ℕ) → number_reading low high (b ∷ new) ≡ Err (suc (length new))) → FieldMismatch (number low high) (b ∷ bytes)
 stop_here low high b bytes order refused = record {
   front = [];
   back = b ∷ bytes;
@@ -139,7 +139,7 @@ number_reads low high (b ∷ bytes) range =
       ]
     ]
 
-pub number_again : (low high v : ℕ) (rest : List ℕ) → IsRange low high → low ≤ v → v ≤ high → plain rest ≡ true → number_at low high (decimal v ++ rest) ≡ Ok (v, rest)
+pub number_again : (low high v : ℕ) (rest : List ℕ) → IsRange low high → low ≤ v → v ≤ high → plain rest ≡ true → number_reading low high (decimal v ++ rest) ≡ Ok (v, rest)
 number_again low high zero rest range least most end =
     let from : (low == 0) ≡ true = grind (arith, nat_tests) in
     rw (decimal_digit 0 (omega arith), from) refl
@@ -169,7 +169,7 @@ range_hex d e = (grind (arith, nat_tests), grind (arith, nat_tests))
 div_step : (w n : ℕ) → w / 16 ^ n / 16 ≡ w / 16 ^ suc n
 div_step w n = div-div-eq-div-mul w (16 ^ n) 16 ∙ (ap (λ (k : ℕ). w / k) (grind arith))
 
-pub hex_again : (n w : ℕ) (rest : List ℕ) → hex_from n (w / 16 ^ n) (hex_text n w ++ rest) ≡ Ok (w, rest)
+pub hex_again : (n w : ℕ) (rest : List ℕ) → hex_reading n (w / 16 ^ n) (hex_text n w ++ rest) ≡ Ok (w, rest)
 hex_again zero w rest = grind arith
 hex_again (suc n) w rest =
     let q : ℕ = w / 16 ^ n in
@@ -182,20 +182,20 @@ hex_again (suc n) w rest =
 pub record HexMatch (n v : ℕ) (bytes : List ℕ) : Type 0 where
   pub value : ℕ
   pub rest : List ℕ
-  pub read : hex_from n v bytes ≡ Ok (value, rest)
+  pub read : hex_reading n v bytes ≡ Ok (value, rest)
   pub parts : bytes ≡ hex_text n value ++ rest
   pub high : value / 16 ^ n ≡ v
 
 pub record HexMismatch (n v : ℕ) (bytes : List ℕ) : Type 0 where
   pub front : List ℕ
   pub back : List ℕ
-  pub read : hex_from n v bytes ≡ Err (length back)
+  pub read : hex_reading n v bytes ≡ Err (length back)
   pub parts : bytes ≡ front ++ back
   pub some : ℕ
   pub high : some / 16 ^ n ≡ v
   pub rest : List ℕ
   pub text : hex_text n some ≡ front ++ rest
-  pub near : (b : ℕ) (more new : List ℕ) → back ≡ b ∷ more → hex_from n v (front ++ b ∷ new) ≡ Err (suc (length new))
+  pub near : (b : ℕ) (more new : List ℕ) → back ≡ b ∷ more → hex_reading n v (front ++ b ∷ new) ≡ Err (suc (length new))
 
 power_positive : (n : ℕ) → 0 < 16 ^ n
 power_positive zero = lit< tt
@@ -312,7 +312,7 @@ letter_reads (a ∷ others) (b ∷ bytes) ok =
 
 -- ---- any field
 
-pub field_again : (f : Field) (v : ℕ) (rest : List ℕ) → is_readable_field f ≡ true → FitsField f v → plain rest ≡ true → field_at f (field_text f v ++ rest) ≡ Ok (v, rest)
+pub field_again : (f : Field) (v : ℕ) (rest : List ℕ) → is_readable_field f ≡ true → FitsField f v → plain rest ≡ true → field_reading f (field_text f v ++ rest) ≡ Ok (v, rest)
 field_again (number low high) v rest ok fits end = number_again low high v rest (is_range low high ok) fits.0 fits.1 end
 field_again (hex n) v rest ok fits end = (let e : v / 16 ^ n ≡ 0 = power_below v n fits in rw e at (hex_again n v rest))
 field_again (letter allowed) v rest ok fits end = rw fits refl
@@ -359,10 +359,10 @@ hex_room i count value digit below most fits small = (let p = power_most i 7 (om
 later : (count i : ℕ) → i < count → count - i ≡ suc (count - (i + 1))
 later count i below = omega arith
 
-pub next_digit : (count i v b : ℕ) (bytes : List ℕ) → i < count → is_hex b ≡ true → hex_from (count - i) v (b ∷ bytes) ≡ hex_from (count - (i + 1)) (v * 16 + hex_value b) bytes
+pub next_digit : (count i v b : ℕ) (bytes : List ℕ) → i < count → is_hex b ≡ true → hex_reading (count - i) v (b ∷ bytes) ≡ hex_reading (count - (i + 1)) (v * 16 + hex_value b) bytes
 next_digit count i v b bytes below digit = rw (later count i below, digit) refl
 
-pub no_digit : (count i v b : ℕ) (bytes : List ℕ) → i < count → is_hex b ≡ false → hex_from (count - i) v (b ∷ bytes) ≡ Err (suc (length bytes))
+pub no_digit : (count i v b : ℕ) (bytes : List ℕ) → i < count → is_hex b ≡ false → hex_reading (count - i) v (b ∷ bytes) ≡ Err (suc (length bytes))
 no_digit count i v b bytes below other = rw (later count i below, other) refl
 
 pub power_next : (i v d : ℕ) → v < 16 ^ i → d < 16 → v * 16 + d < 16 ^ (i + 1)

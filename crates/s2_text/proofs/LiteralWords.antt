@@ -2,9 +2,9 @@
 use Rattle.std.proofs.Common.{◌≡◌, ℕ, suc, ◌<◌, Bool, true, false, List, [], ◌∷◌, ◌++◌, length, drop, Ok, Err, refl, ap, arith, ◌⊎◌, inl, inr}
 use Rattle.std.specs.Prelude.{◌==◌}
 use Rattle.std.proofs.Math.Seq.{drop-cons}
-use Rattle.s2_text.specs.LineReading.{word_at}
+use Rattle.s2_text.specs.LineReading.{word_reading}
 
-pub at_end : (text : List ℕ) (i : ℕ) (rest : List ℕ) → i < length text → length rest ≡ 0 → word_at (drop i text) rest ≡ Err 0
+pub at_end : (text : List ℕ) (i : ℕ) (rest : List ℕ) → i < length text → length rest ≡ 0 → word_reading (drop i text) rest ≡ Err 0
 at_end text i [] below e = rw (drop-cons text i 0 below) refl
 at_end text i (b ∷ bs) below e = absurd (omega arith)
 
@@ -13,7 +13,7 @@ cases true = inl refl
 cases false = inr refl
 
 -- what the reader of a word took
-pub word_found : (ws bytes rest : List ℕ) → word_at ws bytes ≡ Ok rest → bytes ≡ ws ++ rest
+pub word_found : (ws bytes rest : List ℕ) → word_reading ws bytes ≡ Ok rest → bytes ≡ ws ++ rest
 word_found [] bytes rest e = cc
 word_found (w ∷ ws) [] rest e = absurd cc
 word_found (w ∷ ws) (b ∷ bytes) rest e =
@@ -22,7 +22,7 @@ word_found (w ∷ ws) (b ∷ bytes) rest e =
       | inr other ↦ absurd (let f = rw other at e in cc)
     ]
 
-pub word_again : (ws rest : List ℕ) → word_at ws (ws ++ rest) ≡ Ok rest
+pub word_again : (ws rest : List ℕ) → word_reading ws (ws ++ rest) ≡ Ok rest
 word_again [] rest = refl
 word_again (w ∷ ws) rest = elim (cases (w == w)) [
   | inl same ↦ rw same (word_again ws rest)
@@ -37,9 +37,9 @@ pub record WordStops (ws bytes : List ℕ) (left : ℕ) : Type 0 where
   pub parts : bytes ≡ front ++ back
   pub size : length back ≡ left
   pub some : ws ≡ front ++ rest
-  pub near : (b : ℕ) (more new : List ℕ) → back ≡ b ∷ more → word_at ws (front ++ b ∷ new) ≡ Err (suc (length new))
+  pub near : (b : ℕ) (more new : List ℕ) → back ≡ b ∷ more → word_reading ws (front ++ b ∷ new) ≡ Err (suc (length new))
 
-pub word_stops : (ws bytes : List ℕ) (left : ℕ) → word_at ws bytes ≡ Err left → WordStops ws bytes left
+pub word_stops : (ws bytes : List ℕ) (left : ℕ) → word_reading ws bytes ≡ Err left → WordStops ws bytes left
 word_stops [] bytes left e = absurd cc
 word_stops (w ∷ ws) [] left e = record { front = []; back = []; rest = w ∷ ws; parts = refl; size = cc; some = refl; near = λ b more new h. absurd cc }
 word_stops (w ∷ ws) (b ∷ bytes) left e =

@@ -7,7 +7,7 @@ use Rattle.s2_text.specs.declared.stops.Stop.{Stop}
 use Rattle.s2_text.specs.declared.stops.BadLine.{BadLine}
 use Rattle.s2_text.specs.LineGrammar.{Part, word, field, spelling, IsTextOfOne, Begins, Reaches}
 use Rattle.s2_text.specs.LineTables.{LineRow, forms, SaysIn, ReadsRow, IsRemark, IsLineOf, ReadsLine}
-use Rattle.s2_text.specs.LineReading.{remark_at, ReadsRows, AnswersRow, AnswersLine}
+use Rattle.s2_text.specs.LineReading.{remark_reading, ReadsRows, AnswersRow, AnswersLine}
 use Rattle.s2_text.proofs.FormTests.{form_limit, is_readable, are_short, is_no_remark, are_no_remarks}
 use Rattle.s2_text.proofs.LiteralWords.{cases}
 use Rattle.s2_text.proofs.TextSets.{either_reaches}
@@ -28,7 +28,7 @@ long_past bytes (suc n) above most (rest, (e, few)) = (let l : n ≤ length (tak
 few_taken : (bytes : List ℕ) → length (take 127 bytes ++ []) ≤ 127
 few_taken bytes = omega (arith, length-append (take 127 bytes) [], length-take 127 bytes)
 
-pub remark_found : (line : List ℕ) → remark_at line ≡ Ok tt → IsRemark line
+pub remark_found : (line : List ℕ) → remark_reading line ≡ Ok tt → IsRemark line
 remark_found [] e = tt
 remark_found (b ∷ bytes) e =
     elim (cases (b == 35)) [
@@ -39,7 +39,7 @@ remark_found (b ∷ bytes) e =
       | inr other ↦ absurd (let f = rw other at e in cc)
     ]
 
-pub remark_stops : (line : List ℕ) (left : ℕ) → remark_at line ≡ Err left → Reaches IsRemark line (length line - left)
+pub remark_stops : (line : List ℕ) (left : ℕ) → remark_reading line ≡ Err left → Reaches IsRemark line (length line - left)
 remark_stops [] left e = absurd cc
 remark_stops (b ∷ bytes) left e =
     elim (cases (b == 35)) [
@@ -72,7 +72,7 @@ remark_stops (b ∷ bytes) left e =
     ]
 
 -- where both stop
-line_stops : (table : List (List Part)) (line : List ℕ) (s t m : ℕ) → remark_at line ≡ Err s → Reaches (IsTextOfOne table) line (length line - t) → m ≡ min s t → (1 ≤ length line - m + 1) × Reaches (IsLineOf table) line (length line - m + 1 - 1)
+line_stops : (table : List (List Part)) (line : List ℕ) (s t m : ℕ) → remark_reading line ≡ Err s → Reaches (IsTextOfOne table) line (length line - t) → m ≡ min s t → (1 ≤ length line - m + 1) × Reaches (IsLineOf table) line (length line - m + 1 - 1)
 line_stops table line s t m e r is =
     let back : length line - m + 1 - 1 ≡ length line - m = omega arith in (
       omega arith,
@@ -83,7 +83,7 @@ line_stops table line s t m e r is =
           ])),
     )
 
-pub with_remarks_stops : {A : Type 0} (rows : List (LineRow A)) (line : List ℕ) (found : Result A Stop) (stop : Stop) (s m : ℕ) → ReadsRows rows line found → found ≡ Err stop → remark_at line ≡ Err s → m ≡ min s stop.left → AnswersLine rows line (Err (record { column = length line - m + 1 }))
+pub with_remarks_stops : {A : Type 0} (rows : List (LineRow A)) (line : List ℕ) (found : Result A Stop) (stop : Stop) (s m : ℕ) → ReadsRows rows line found → found ≡ Err stop → remark_reading line ≡ Err s → m ≡ min s stop.left → AnswersLine rows line (Err (record { column = length line - m + 1 }))
 with_remarks_stops rows line (Ok x) stop s m reads is remark least = absurd cc
 with_remarks_stops rows line (Err t) stop s m reads is remark least =
     let same : t.left ≡ stop.left = cc in

@@ -2,7 +2,7 @@
 use Rattle.std.proofs.Common.{◌≡◌, ℕ, ◌-◌, ◌++◌, true, List, [], ◌∷◌, length, Result, Ok, Err, refl, ap, ◌∙◌, ◌⊎◌, inl, inr}
 use Rattle.s2_text.specs.declared.stops.Stop.{Stop}
 use Rattle.s2_text.specs.LineGrammar.{Part, IsText, IsTextOfOne}
-use Rattle.s2_text.specs.LineReading.{numbers_at, IsReading, answer_of, ReadsForm, IsExact, further_of, ReadsRows}
+use Rattle.s2_text.specs.LineReading.{form_reading, IsReading, answer_of, ReadsForm, IsExact, further_of, ReadsRows}
 use Rattle.s2_text.proofs.FormTests.{is_readable}
 use Rattle.s2_text.specs.LineTables.{SaysBy, LineRow, forms, SaysIn}
 use Rattle.s2_text.proofs.TextSets.{form_found, form_stops, left_fits, either_exact, reaches_same}
@@ -11,22 +11,22 @@ weaker : {A : Type 0} (P Q : A → List ℕ → Type 0) (S : List ℕ → Type 0
 weaker P Q S line (Ok x) to h = to x h
 weaker P Q S line (Err stop) to h = h
 
-by_values : {A : Type 0} (says : List ℕ → A) (ps : List Part) (line : List ℕ) (r : Result A Stop) (read : Result (List ℕ) ℕ) → is_readable ps ≡ true → numbers_at ps [] line ≡ read → IsReading (λ x. x) r (answer_of says read) → IsExact (SaysBy ps says) (IsText ps) line r
+by_values : {A : Type 0} (says : List ℕ → A) (ps : List Part) (line : List ℕ) (r : Result A Stop) (read : Result (List ℕ) ℕ) → is_readable ps ≡ true → form_reading ps [] line ≡ read → IsReading (λ x. x) r (answer_of says read) → IsExact (SaysBy ps says) (IsText ps) line r
 by_values says ps line (Ok x) (Ok vs) ok e gives = (let f = form_found ps line vs ok e in (vs, f.0, f.1, cc))
 by_values says ps line (Ok x) (Err left) ok e gives = absurd cc
 by_values says ps line (Err stop) (Ok vs) ok e gives = absurd cc
-by_values says ps line (Err stop) (Err left) ok e gives = (let f : numbers_at ps [] line ≡ Err stop.left = e ∙ (let g : left ≡ stop.left = cc in ap (λ (n : ℕ). Err n) g) in (left_fits ps line stop.left ok f, form_stops ps line stop.left ok f))
+by_values says ps line (Err stop) (Err left) ok e gives = (let f : form_reading ps [] line ≡ Err stop.left = e ∙ (let g : left ≡ stop.left = cc in ap (λ (n : ℕ). Err n) g) in (left_fits ps line stop.left ok f, form_stops ps line stop.left ok f))
 
 pub rows_more : {A : Type 0} (row : LineRow A) (rows : List (LineRow A)) (line : List ℕ) (r q out : Result A Stop) → ReadsForm row line r → ReadsRows rows line q → out ≡ further_of r q → is_readable row.form ≡ true → ReadsRows (row ∷ rows) line out
 rows_more row rows line r q out gives more is ok =
-    let one = weaker (SaysBy row.form row.says) (SaysIn (row ∷ rows)) (IsText row.form) line r (λ x h. inl h) (by_values row.says row.form line r (numbers_at row.form [] line) ok refl gives) in
+    let one = weaker (SaysBy row.form row.says) (SaysIn (row ∷ rows)) (IsText row.form) line r (λ x h. inl h) (by_values row.says row.form line r (form_reading row.form [] line) ok refl gives) in
     let others = weaker (SaysIn rows) (SaysIn (row ∷ rows)) (IsTextOfOne (forms rows)) line q (λ x h. inr h) more.is in
     rw is (record { is = either_exact (SaysIn (row ∷ rows)) (IsText row.form) (IsTextOfOne (forms rows)) line r q one others })
 
 pub rows_last : {A : Type 0} (row : LineRow A) (line : List ℕ) (r : Result A Stop) → ReadsForm row line r → is_readable row.form ≡ true → ReadsRows (row ∷ []) line r
-rows_last row line (Ok x) gives ok = record { is = inl (by_values row.says row.form line (Ok x) (numbers_at row.form [] line) ok refl gives) }
+rows_last row line (Ok x) gives ok = record { is = inl (by_values row.says row.form line (Ok x) (form_reading row.form [] line) ok refl gives) }
 rows_last row line (Err stop) gives ok =
-    let h = by_values row.says row.form line (Err stop) (numbers_at row.form [] line) ok refl gives in
+    let h = by_values row.says row.form line (Err stop) (form_reading row.form [] line) ok refl gives in
     record { is = (h.0, reaches_same (IsText row.form) (IsTextOfOne (row.form ∷ [])) line (length line - stop.left) (λ t x. inl x) (λ t x. elim x [ inl y ↦ y | inr z ↦ absurd z ]) h.1) }
 
 -- ---- two tables

@@ -2,7 +2,7 @@
 use Rattle.std.proofs.Common.{◌≡◌, ℕ, suc, ◌+◌, ◌-◌, ◌<◌, ◌≤◌, true, List, [], ◌∷◌, ◌++◌, length, take, Result, Ok, Err, refl, sym, ap, ◌∙◌, subst, append_assoc, arith, ◌⊎◌, inl, inr, length-append}
 use Rattle.std.proofs.Math.Seq.{take-append_seam, take-append-add}
 use Rattle.s2_text.specs.LineGrammar.{Part, Fits, spelling, IsText, Begins, Reaches}
-use Rattle.s2_text.specs.LineReading.{numbers_at, further_of, IsExact}
+use Rattle.s2_text.specs.LineReading.{form_reading, further_of, IsExact}
 use Rattle.s2_text.proofs.FormTests.{is_readable}
 use Rattle.s2_text.specs.declared.stops.Stop.{Stop}
 use Rattle.std.specs.Prelude.{nat_le}
@@ -21,17 +21,17 @@ err_is : {A : Type 0} (r : Result A ℕ) (x y : ℕ) → r ≡ Err x → r ≡ E
 err_is r x y p q = cc
 
 -- What was read is a text of the form, with these values.
-pub form_found : (ps : List Part) (line vs : List ℕ) → is_readable ps ≡ true → numbers_at ps [] line ≡ Ok vs → Fits ps vs × (line ≡ spelling ps vs)
+pub form_found : (ps : List Part) (line vs : List ℕ) → is_readable ps ≡ true → form_reading ps [] line ≡ Ok vs → Fits ps vs × (line ≡ spelling ps vs)
 form_found ps line vs ok e =
     elim (scans ps [] line ok) [
       | inl t ↦
-          let same : t.values ≡ vs = ok_is (numbers_at ps [] line) t.values vs t.read e in
+          let same : t.values ≡ vs = ok_is (form_reading ps [] line) t.values vs t.read e in
           (subst (λ (x : List ℕ). Fits ps x) same t.fits, t.text ∙ ap (λ (x : List ℕ). spelling ps x) same)
-      | inr s ↦ absurd (apart (numbers_at ps [] line) vs (length s.back) e s.read)
+      | inr s ↦ absurd (apart (form_reading ps [] line) vs (length s.back) e s.read)
     ]
 
 -- Texts of the form are read.
-pub form_again : (ps : List Part) (vs : List ℕ) → is_readable ps ≡ true → Fits ps vs → numbers_at ps [] (spelling ps vs) ≡ Ok vs
+pub form_again : (ps : List Part) (vs : List ℕ) → is_readable ps ≡ true → Fits ps vs → form_reading ps [] (spelling ps vs) ≡ Ok vs
 form_again ps vs ok fits = text_again ps vs [] ok fits
 
 -- the front of a line that is longer than front, and what stands at its end
@@ -50,32 +50,32 @@ past_lemma ps line ok s n above most (rest, (vs, fits, text)) =
     let whole : s.front ++ t.0 ∷ (t.2 ++ rest) ≡ spelling ps vs =
     sym (append_assoc s.front (t.0 ∷ t.2) rest) ∙ (ap (λ (x : List ℕ). x ++ rest) (sym taken) ∙ text) in
     let refused = s.near t.0 t.1 (t.2 ++ rest) t.3 in
-    let read : numbers_at ps [] (s.front ++ t.0 ∷ (t.2 ++ rest)) ≡ Ok vs = ap (λ (x : List ℕ). numbers_at ps [] x) whole ∙ text_again ps vs [] ok fits in
-    apart (numbers_at ps [] (s.front ++ t.0 ∷ (t.2 ++ rest))) vs (suc (length (t.2 ++ rest))) read refused
+    let read : form_reading ps [] (s.front ++ t.0 ∷ (t.2 ++ rest)) ≡ Ok vs = ap (λ (x : List ℕ). form_reading ps [] x) whole ∙ text_again ps vs [] ok fits in
+    apart (form_reading ps [] (s.front ++ t.0 ∷ (t.2 ++ rest))) vs (suc (length (t.2 ++ rest))) read refused
 
 -- no more is left than there was
-pub left_fits : (ps : List Part) (line : List ℕ) (left : ℕ) → is_readable ps ≡ true → numbers_at ps [] line ≡ Err left → left ≤ length line
+pub left_fits : (ps : List Part) (line : List ℕ) (left : ℕ) → is_readable ps ≡ true → form_reading ps [] line ≡ Err left → left ≤ length line
 left_fits ps line left ok e =
     elim (scans ps [] line ok) [
-      | inl t ↦ absurd (apart (numbers_at ps [] line) t.values left t.read e)
+      | inl t ↦ absurd (apart (form_reading ps [] line) t.values left t.read e)
       | inr s ↦
-          let size : length s.back ≡ left = err_is (numbers_at ps [] line) (length s.back) left s.read e in
+          let size : length s.back ≡ left = err_is (form_reading ps [] line) (length s.back) left s.read e in
           let total : length line ≡ length s.front + length s.back = ap (λ (x : List ℕ). length x) s.parts ∙ length-append s.front s.back in
           omega arith
     ]
 
 -- Where reading stopped is the end of the longest prefix that is a prefix of a text of the form.
-pub form_stops : (ps : List Part) (line : List ℕ) (left : ℕ) → is_readable ps ≡ true → numbers_at ps [] line ≡ Err left → Reaches (IsText ps) line (length line - left)
+pub form_stops : (ps : List Part) (line : List ℕ) (left : ℕ) → is_readable ps ≡ true → form_reading ps [] line ≡ Err left → Reaches (IsText ps) line (length line - left)
 form_stops ps line left ok e =
     elim (scans ps [] line ok) [
-      | inl t ↦ absurd (apart (numbers_at ps [] line) t.values left t.read e)
+      | inl t ↦ absurd (apart (form_reading ps [] line) t.values left t.read e)
       | inr s ↦
-          let size : length s.back ≡ left = err_is (numbers_at ps [] line) (length s.back) left s.read e in
+          let size : length s.back ≡ left = err_is (form_reading ps [] line) (length s.back) left s.read e in
           let total : length line ≡ length s.front + length s.back = ap (λ (x : List ℕ). length x) s.parts ∙ length-append s.front s.back in
           let reach : length line - left ≡ length s.front = omega arith in
           let taken : take (length s.front) line ≡ s.front = ap (λ (x : List ℕ). take (length s.front) x) s.parts ∙ take-append_seam s.front s.back in
           rw reach (record {
-            outside = λ t. apart (numbers_at ps [] line) t.0 left (ap (λ (x : List ℕ). numbers_at ps [] x) t.2 ∙ text_again ps t.0 [] ok t.1) e;
+            outside = λ t. apart (form_reading ps [] line) t.0 left (ap (λ (x : List ℕ). form_reading ps [] x) t.2 ∙ text_again ps t.0 [] ok t.1) e;
             within = omega arith;
             before = (s.rest, (s.some, s.fits, ap (λ (x : List ℕ). x ++ s.rest) taken ∙ sym s.text));
             past = λ n above most begins. past_lemma ps line ok s n above most begins;
@@ -126,4 +126,4 @@ either_exact Says S T line (Err s) (Err t) a b =
 -- ---- one spelling
 
 pub same_numbers : (ps : List Part) (vs ws : List ℕ) → is_readable ps ≡ true → Fits ps vs → Fits ps ws → spelling ps vs ≡ spelling ps ws → vs ≡ ws
-same_numbers ps vs ws ok a b e = ok_is (numbers_at ps [] (spelling ps vs)) vs ws (form_again ps vs ok a) (ap (λ (x : List ℕ). numbers_at ps [] x) e ∙ form_again ps ws ok b)
+same_numbers ps vs ws ok a b e = ok_is (form_reading ps [] (spelling ps vs)) vs ws (form_again ps vs ok a) (ap (λ (x : List ℕ). form_reading ps [] x) e ∙ form_again ps ws ok b)

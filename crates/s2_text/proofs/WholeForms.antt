@@ -2,7 +2,7 @@
 use Rattle.std.proofs.Common.{◌≡◌, ℕ, suc, true, List, [], ◌∷◌, ◌++◌, length, Result, Ok, Err, refl, sym, ap, ◌∙◌, append_assoc, arith, ◌⊎◌, inl, inr}
 use Rattle.std.proofs.lemmas.List.{append-nil}
 use Rattle.s2_text.specs.LineGrammar.{Field, Part, word, field, field_text, Fits, spelling}
-use Rattle.s2_text.specs.LineReading.{word_at, field_at, numbers_at}
+use Rattle.s2_text.specs.LineReading.{word_reading, field_reading, form_reading}
 use Rattle.s2_text.proofs.FormTests.{is_readable_field, starts_without_digit, is_readable}
 use Rattle.s2_text.proofs.LiteralWords.{word_found, word_again, word_stops}
 use Rattle.s2_text.proofs.Decimals.{plain}
@@ -24,7 +24,7 @@ spelling_plain (word (w ∷ ws) ∷ ps) vs e = e
 spelling_plain (field f ∷ ps) vs e = absurd cc
 
 -- a text is read, as its values
-pub text_again : (ps : List Part) (vs done : List ℕ) → is_readable ps ≡ true → Fits ps vs → numbers_at ps done (spelling ps vs) ≡ Ok (done ++ vs)
+pub text_again : (ps : List Part) (vs done : List ℕ) → is_readable ps ≡ true → Fits ps vs → form_reading ps done (spelling ps vs) ≡ Ok (done ++ vs)
 text_again [] [] done ok fits = rw (append-nil done) refl
 text_again [] (v ∷ vs) done ok fits = absurd fits
 text_again (word w ∷ ps) vs done ok fits = rw (word_again w (spelling ps vs)) (text_again ps vs done ok fits)
@@ -48,29 +48,29 @@ some_values (field f ∷ ps) ok =
 
 pub record FormMatch (ps : List Part) (done bytes : List ℕ) : Type 0 where
   pub values : List ℕ
-  pub read : numbers_at ps done bytes ≡ Ok (done ++ values)
+  pub read : form_reading ps done bytes ≡ Ok (done ++ values)
   pub fits : Fits ps values
   pub text : bytes ≡ spelling ps values
 
 pub record FormMismatch (ps : List Part) (done bytes : List ℕ) : Type 0 where
   pub front : List ℕ
   pub back : List ℕ
-  pub read : numbers_at ps done bytes ≡ Err (length back)
+  pub read : form_reading ps done bytes ≡ Err (length back)
   pub parts : bytes ≡ front ++ back
   pub some : List ℕ
   pub fits : Fits ps some
   pub rest : List ℕ
   pub text : spelling ps some ≡ front ++ rest
-  pub near : (b : ℕ) (more new : List ℕ) → back ≡ b ∷ more → numbers_at ps done (front ++ b ∷ new) ≡ Err (suc (length new))
+  pub near : (b : ℕ) (more new : List ℕ) → back ≡ b ∷ more → form_reading ps done (front ++ b ∷ new) ≡ Err (suc (length new))
 
 -- only the next byte after a value matters
-same_after : (f : Field) (bytes : List ℕ) (t : FieldMatch f bytes) (front back : List ℕ) (b : ℕ) (more new : List ℕ) → t.rest ≡ front ++ back → back ≡ b ∷ more → field_at f (field_text f t.value ++ (front ++ b ∷ new)) ≡ Ok (t.value, front ++ b ∷ new)
+same_after : (f : Field) (bytes : List ℕ) (t : FieldMatch f bytes) (front back : List ℕ) (b : ℕ) (more new : List ℕ) → t.rest ≡ front ++ back → back ≡ b ∷ more → field_reading f (field_text f t.value ++ (front ++ b ∷ new)) ≡ Ok (t.value, front ++ b ∷ new)
 same_after f bytes t [] back b more new e h = t.near b more new (e ∙ h)
 same_after f bytes t (c ∷ front) back b more new e h = t.near c (front ++ back) (front ++ b ∷ new) e
 
 scan_word : (w : List ℕ) (ps : List Part) (done bytes : List ℕ) → is_readable ps ≡ true
     → ((rest : List ℕ) → FormMatch ps done rest ⊎ FormMismatch ps done rest)
-    → (r : Result (List ℕ) ℕ) → word_at w bytes ≡ r → FormMatch (word w ∷ ps) done bytes ⊎ FormMismatch (word w ∷ ps) done bytes
+    → (r : Result (List ℕ) ℕ) → word_reading w bytes ≡ r → FormMatch (word w ∷ ps) done bytes ⊎ FormMismatch (word w ∷ ps) done bytes
 scan_word w ps done bytes ok on (Ok rest) e =
     let parts : bytes ≡ w ++ rest = word_found w bytes rest e in
     elim (on rest) [
@@ -118,14 +118,14 @@ scans [] done (b ∷ bytes) ok = inr (record {
   text = refl;
   near = λ c more new h. refl;
 })
-scans (word w ∷ ps) done bytes ok = scan_word w ps done bytes ok (λ rest. scans ps done rest ok) (word_at w bytes) refl
+scans (word w ∷ ps) done bytes ok = scan_word w ps done bytes ok (λ rest. scans ps done rest ok) (word_reading w bytes) refl
 scans (field f ∷ ps) done bytes ok =
     let s = readable_parts f ps ok in
     elim (field_reads f bytes s.here) [
       | inl t ↦ elim (scans ps (done ++ t.value ∷ []) t.rest s.others) [
         | inl u ↦ inl (record {
           values = t.value ∷ u.values;
-          read = rw t.read (regrouped (numbers_at ps (done ++ t.value ∷ []) t.rest) done u.values t.value u.read);
+          read = rw t.read (regrouped (form_reading ps (done ++ t.value ∷ []) t.rest) done u.values t.value u.read);
           fits = (t.fits, u.fits);
           text = t.parts ∙ ap (λ (x : List ℕ). field_text f t.value ++ x) u.text;
         })

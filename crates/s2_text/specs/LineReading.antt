@@ -21,10 +21,10 @@ IsReading view (Err e) read = read ≡ Err e.left
 -- ---- parts
 
 -- a word at the front: what is behind it
-abbrev pub word_at : List ℕ → List ℕ → Result (List ℕ) ℕ
-word_at [] bytes = Ok bytes
-word_at (w ∷ ws) [] = Err 0
-word_at (w ∷ ws) (b ∷ bytes) = if b == w then word_at ws bytes else Err (suc (length bytes))
+abbrev pub word_reading : List ℕ → List ℕ → Result (List ℕ) ℕ
+word_reading [] bytes = Ok bytes
+word_reading (w ∷ ws) [] = Err 0
+word_reading (w ∷ ws) (b ∷ bytes) = if b == w then word_reading ws bytes else Err (suc (length bytes))
 
 -- `0` to `9`
 abbrev pub is_digit : ℕ → Bool
@@ -44,9 +44,9 @@ abbrev pub at_least : ℕ → ℕ × List ℕ → Result (ℕ × List ℕ) ℕ
 at_least low x = if nat_lt x.0 low then Err (length x.1) else Ok x
 
 -- a decimal number at the front
-abbrev pub number_at : ℕ → ℕ → List ℕ → Result (ℕ × List ℕ) ℕ
-number_at low high [] = Err 0
-number_at low high (b ∷ bytes) =
+abbrev pub number_reading : ℕ → ℕ → List ℕ → Result (ℕ × List ℕ) ℕ
+number_reading low high [] = Err 0
+number_reading low high (b ∷ bytes) =
     if b == 48 then (if low == 0 then Ok (0, bytes) else Err (suc (length bytes)))
     else (if goes_on high 0 b then at_least low (digits_from high (b - 48) bytes) else Err (suc (length bytes)))
 
@@ -59,34 +59,34 @@ abbrev pub hex_value : ℕ → ℕ
 hex_value b = if is_digit b then b - 48 else b - 87
 
 -- so many digits of base 16 more, behind those that made v
-abbrev pub hex_from : ℕ → ℕ → List ℕ → Result (ℕ × List ℕ) ℕ
-hex_from zero v bytes = Ok (v, bytes)
-hex_from (suc n) v [] = Err 0
-hex_from (suc n) v (b ∷ bytes) = if is_hex b then hex_from n (v * 16 + hex_value b) bytes else Err (suc (length bytes))
+abbrev pub hex_reading : ℕ → ℕ → List ℕ → Result (ℕ × List ℕ) ℕ
+hex_reading zero v bytes = Ok (v, bytes)
+hex_reading (suc n) v [] = Err 0
+hex_reading (suc n) v (b ∷ bytes) = if is_hex b then hex_reading n (v * 16 + hex_value b) bytes else Err (suc (length bytes))
 
 -- a letter of the list at the front
-abbrev pub letter_at : List ℕ → List ℕ → Result (ℕ × List ℕ) ℕ
-letter_at allowed [] = Err 0
-letter_at allowed (b ∷ bytes) = if is_one_of allowed b then Ok (b, bytes) else Err (suc (length bytes))
+abbrev pub letter_reading : List ℕ → List ℕ → Result (ℕ × List ℕ) ℕ
+letter_reading allowed [] = Err 0
+letter_reading allowed (b ∷ bytes) = if is_one_of allowed b then Ok (b, bytes) else Err (suc (length bytes))
 
 -- a field at the front
-abbrev pub field_at : Field → List ℕ → Result (ℕ × List ℕ) ℕ
-field_at (number low high) bytes = number_at low high bytes
-field_at (hex n) bytes = hex_from n 0 bytes
-field_at (letter allowed) bytes = letter_at allowed bytes
+abbrev pub field_reading : Field → List ℕ → Result (ℕ × List ℕ) ℕ
+field_reading (number low high) bytes = number_reading low high bytes
+field_reading (hex n) bytes = hex_reading n 0 bytes
+field_reading (letter allowed) bytes = letter_reading allowed bytes
 
 -- the end of the line
-abbrev pub end_at : List ℕ → Result (Unit {0}) ℕ
-end_at [] = Ok tt
-end_at (b ∷ bytes) = Err (suc (length bytes))
+abbrev pub end_reading : List ℕ → Result (Unit {0}) ℕ
+end_reading [] = Ok tt
+end_reading (b ∷ bytes) = Err (suc (length bytes))
 
 -- ---- a form
 
 -- the numbers of the form's fields, behind those that were read before
-abbrev pub numbers_at : List Part → List ℕ → List ℕ → Result (List ℕ) ℕ
-numbers_at [] done bytes = end_at bytes >>= λ _. Ok done
-numbers_at (word w ∷ ps) done bytes = word_at w bytes >>= λ rest. numbers_at ps done rest
-numbers_at (field f ∷ ps) done bytes = field_at f bytes >>= λ x. numbers_at ps (done ++ x.0 ∷ []) x.1
+abbrev pub form_reading : List Part → List ℕ → List ℕ → Result (List ℕ) ℕ
+form_reading [] done bytes = end_reading bytes >>= λ _. Ok done
+form_reading (word w ∷ ps) done bytes = word_reading w bytes >>= λ rest. form_reading ps done rest
+form_reading (field f ∷ ps) done bytes = field_reading f bytes >>= λ x. form_reading ps (done ++ x.0 ∷ []) x.1
 
 -- what the numbers say
 abbrev pub answer_of : {A : Type 0} → (List ℕ → A) → Result (List ℕ) ℕ → Result A ℕ
@@ -95,7 +95,7 @@ answer_of says (Err left) = Err left
 
 -- what a row's reader answers
 abbrev pub ReadsForm : {A : Type 0} → LineRow A → List ℕ → Result A Stop → Type 0
-ReadsForm row line result = IsReading (λ x. x) result (answer_of row.says (numbers_at row.form [] line))
+ReadsForm row line result = IsReading (λ x. x) result (answer_of row.says (form_reading row.form [] line))
 
 -- ---- a table
 
@@ -115,9 +115,9 @@ pub record ReadsRows {A : Type 0} (rows : List (LineRow A)) (line : List ℕ) (r
   pub is : IsExact (SaysIn rows) (IsTextOfOne (forms rows)) line result
 
 -- a remark
-abbrev pub remark_at : List ℕ → Result (Unit {0}) ℕ
-remark_at [] = Ok tt
-remark_at (b ∷ bytes) =
+abbrev pub remark_reading : List ℕ → Result (Unit {0}) ℕ
+remark_reading [] = Ok tt
+remark_reading (b ∷ bytes) =
     if b == HASH then (if nat_le (length bytes) (LINE_BYTES - 1) then Ok tt else Err (length bytes - (LINE_BYTES - 1)))
     else Err (suc (length bytes))
 

@@ -4,7 +4,7 @@ ghost use Rattle.std.specs.Prelude.{◌≡◌, ℕ, ◌+◌, ◌-◌, ◌*◌, �
 ghost use Rattle.std.specs.Fmt.{decimal};
 ghost use Rattle.s2_text.specs.declared.lines.TheConstants.{LINE_BYTES};
 ghost use Rattle.s2_text.specs.DecimalText.{IsDecimalText};
-ghost use Rattle.s2_text.specs.LineReading.{IsReading, goes_on, digits_from, number_at};
+ghost use Rattle.s2_text.specs.LineReading.{IsReading, goes_on, digits_from, number_reading};
 
 use crate::stops::Stop;
 use crate::text::Text;
@@ -47,7 +47,7 @@ fn digits(value: u64, bytes: &[u8], high: u64) -> (u64, &[u8])
 /// A digit that would lead above `high` is not read. Stops at a first byte that begins no number of the
 /// range, and behind a number below `low`.
 pub fn number(bytes: &[u8], low: u64, high: u64) -> Result<(u64, &[u8]), Stop>
-    ensures read { IsReading (λ x. (x.0, x.1.now)) result (number_at low high bytes.now) }
+    ensures read { IsReading (λ x. (x.0, x.1.now)) result (number_reading low high bytes.now) }
     ensures most { IfOk result (λ x. x.0 ≤ high) }
 {
     let Some((first, rest)) = bytes.split_first() else {
@@ -75,7 +75,7 @@ pub fn number(bytes: &[u8], low: u64, high: u64) -> Result<(u64, &[u8]), Stop>
 /// not 0.
 pub fn below(bytes: &[u8], count: u8) -> Result<(u8, &[u8]), Stop>
     requires { 0 < count }
-    ensures { IsReading (λ x. (x.0, x.1.now)) result (number_at 0 (count - 1) bytes.now) }
+    ensures { IsReading (λ x. (x.0, x.1.now)) result (number_reading 0 (count - 1) bytes.now) }
 {
     let (n, rest) = number(bytes, 0, count as u64 - 1)?;
     Ok((n as u8, rest))

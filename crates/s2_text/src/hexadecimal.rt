@@ -4,7 +4,7 @@ ghost use Rattle.std.specs.Prelude.{◌≡◌, ℕ, ◌+◌, ◌/◌, ◌%◌, �
 ghost use Rattle.s2_text.specs.declared.lines.TheConstants.{LINE_BYTES};
 ghost use Rattle.s2_text.specs.declared.hexadecimal.TheConstants.{WORD_DIGITS};
 ghost use Rattle.s2_text.specs.HexText.{hex_digit, hex_text, IsHexText};
-ghost use Rattle.s2_text.specs.LineReading.{IsReading, hex_from, is_hex, hex_value};
+ghost use Rattle.s2_text.specs.LineReading.{IsReading, hex_reading, is_hex, hex_value};
 
 use crate::stops::Stop;
 use crate::text::Text;
@@ -31,7 +31,7 @@ fn digit_value(byte: u8) -> Option<u8>
 #[tactic(auto, using(crate::proofs::LineFields::hexes))]
 pub fn hex(bytes: &[u8], count: usize) -> Result<(u32, &[u8]), Stop>
     requires { count ≤ WORD_DIGITS }
-    ensures read { IsReading (λ x. (x.0, x.1.now)) result (hex_from count 0 bytes.now) }
+    ensures read { IsReading (λ x. (x.0, x.1.now)) result (hex_reading count 0 bytes.now) }
     ensures below { IfOk result (λ x. x.0 < 16 ^ count) }
 {
     let mut value: u32 = 0;

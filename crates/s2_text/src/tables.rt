@@ -3,7 +3,7 @@
 ghost use Rattle.std.specs.Prelude.{◌≡◌, ◌≤◌, List, length};
 ghost use Rattle.s2_text.specs.declared.lines.TheConstants.{HELD_BYTES};
 ghost use Rattle.s2_text.specs.LineTables.{LineRow};
-ghost use Rattle.s2_text.specs.LineReading.{IsReading, further_of, remark_at, ReadsRows, AnswersRow, AnswersLine};
+ghost use Rattle.s2_text.specs.LineReading.{IsReading, further_of, remark_reading, ReadsRows, AnswersRow, AnswersLine};
 
 use crate::lines::{HASH, LINE_BYTES};
 use crate::stops::{BadLine, Stop};
@@ -23,7 +23,7 @@ pub fn either<T: Drop>(a: Result<T, Stop>, b: Result<T, Stop>) -> Result<T, Stop
 
 /// Reads an empty line or a comment.
 fn remark(line: &[u8]) -> Result<(), Stop>
-    ensures { IsReading (λ u. u) result (remark_at line.now) }
+    ensures { IsReading (λ u. u) result (remark_reading line.now) }
 {
     match line.split_first() {
         None => Ok(()),

@@ -1,0 +1,6 @@
+pub mod Joined
+pub mod ReportTests
+pub mod ReportTexts
+pub mod OrderStates
+pub mod WholeReports
+pub mod ReportAnswers

@@ -1,0 +1,225 @@
+//! The writers of a report's lines. Each writes one line, without its line feed.
+
+ghost use Rattle.std.specs.Prelude.{◌≡◌, ◌≤◌, ◌++◌, ◌∷◌, [], codes, length};
+ghost use Rattle.std.specs.Fmt.{decimal};
+ghost use Rattle.s2_text.specs.HexText.{hex_text};
+ghost use Rattle.s2_text.specs.LineTables.{SaysIn};
+ghost use Rattle.s2_ports.specs.declared.events.Event.{Event};
+ghost use Rattle.s2_journal.specs.declared.note.Note.{Note};
+ghost use Rattle.s2_journal.specs.declared.note.Reason.{Reason};
+ghost use Rattle.s2_journal.specs.declared.note.End.{End};
+ghost use Rattle.s2_journal.specs.declared.note.ReportLine.{ReportLine};
+ghost use Rattle.s2_journal.specs.ReportLines.{report_rows, why_word, joined_word, note_text, IsReadableNote, note_answer, count_text, IsReadableCount, count_answer, end_text, IsReadableEnd};
+
+use crate::note::{Count, End, Note, Reason, Why};
+use s2_ports::Event;
+use s2_text::{Text, WORD_DIGITS, and_dec, and_hex, and_word, start};
+
+/// Writes the line of a note.
+///
+/// `read_report` reads it as what it keeps of the note, where the numbers are in its ranges.
+pub fn put_note(n: &Note) -> Text
+    ensures text { result.items ≡ note_text n.now }
+    ensures said { IsReadableNote n.now → SaysIn report_rows (note_answer n.now) result.items }
+{
+    note_line(*n)
+}
+
+/// Writes the line of a note.
+fn note_line(n: Note) -> Text
+    ensures { result.items ≡ note_text n }
+{
+    match n {
+        Note::Delivered { run, event } => put_delivered(run, event),
+        Note::Out { tick, p, why } => put_out(tick, p, why),
+        Note::Lost { tick, event } => put_lost(tick, event),
+        Note::Repaired { tick, board, index } => put_repair(tick, board, index),
+        Note::BoardDead { tick, board } => put_board(tick, board),
+        Note::Join { tick, p } => put_join(tick, p),
+        Note::Joined { tick, p, good } => put_joined(tick, p, good),
+    }
+}
+
+/// Writes `d RUN` and the event.
+#[tactic(auto, using(crate::proofs::Joined::texts))]
+fn put_delivered(run: u64, event: Event) -> Text
+    ensures { result.items ≡ note_text (Note.Delivered run event) }
+{
+    let line = and_dec(start(b"d"), run);
+    match event {
+        Event::Tick => and_word(line, b"tick"),
+        Event::Key(byte) => and_hex(and_word(line, b"key"), byte as u32, 2),
+    }
+}
+
+/// Writes `lost TICK` and the event.
+#[tactic(auto, using(crate::proofs::Joined::texts))]
+fn put_lost(tick: u64, event: Event) -> Text
+    ensures { result.items ≡ note_text (Note.Lost tick event) }
+{
+    let line = and_dec(start(b"lost"), tick);
+    match event {
+        Event::Tick => and_word(line, b"tick"),
+        Event::Key(byte) => and_hex(and_word(line, b"key"), byte as u32, 2),
+    }
+}
+
+/// Why a processor is out, as a word.
+fn word_of(why: Why) -> &'static [u8]
+    ensures word { result.now ≡ why_word why }
+    ensures short { length result.now ≤ 7 }
+{
+    match why {
+        Why::Differ => b"differ",
+        Why::Late => b"late",
+        Why::Removed => b"removed",
+    }
+}
+
+/// Writes `out TICK P` and why.
+#[tactic(auto, using(crate::proofs::Joined::texts))]
+fn put_out(tick: u64, p: u8, why: Why) -> Text
+    ensures { result.items ≡ note_text (Note.Out tick p why) }
+{
+    and_word(
+        and_dec(and_dec(start(b"out"), tick), p as u64),
+        word_of(why),
+    )
+}
+
+/// Writes `repair TICK B INDEX`.
+#[tactic(auto, using(crate::proofs::Joined::texts))]
+fn put_repair(tick: u64, board: u8, index: u32) -> Text
+    ensures { result.items ≡ note_text (Note.Repaired tick board index) }
+{
+    let line = and_dec(and_dec(start(b"repair"), tick), board as u64);
+    and_dec(line, index as u64)
+}
+
+/// Writes `board TICK B`.
+#[tactic(auto, using(crate::proofs::Joined::texts))]
+fn put_board(tick: u64, board: u8) -> Text
+    ensures { result.items ≡ note_text (Note.BoardDead tick board) }
+{
+    and_dec(and_dec(start(b"board"), tick), board as u64)
+}
+
+/// Writes `join TICK P`.
+#[tactic(auto, using(crate::proofs::Joined::texts))]
+fn put_join(tick: u64, p: u8) -> Text
+    ensures { result.items ≡ note_text (Note.Join tick p) }
+{
+    and_dec(and_dec(start(b"join"), tick), p as u64)
+}
+
+/// How a processor is in again, as a word.
+fn word_of_good(good: bool) -> &'static [u8]
+    ensures word { result.now ≡ joined_word good }
+    ensures short { length result.now ≤ 7 }
+{
+    if good { b"good" } else { b"tainted" }
+}
+
+/// Writes `joined TICK P` and how.
+#[tactic(auto, using(crate::proofs::Joined::texts))]
+fn put_joined(tick: u64, p: u8, good: bool) -> Text
+    ensures { result.items ≡ note_text (Note.Joined tick p good) }
+{
+    and_word(
+        and_dec(and_dec(start(b"joined"), tick), p as u64),
+        word_of_good(good),
+    )
+}
+
+/// Writes the line of a count.
+///
+/// `read_report` reads it as what it keeps of the count, where the number is in its range.
+pub fn put_count(name: Count, n: u64) -> Text
+    ensures text { result.items ≡ count_text name n }
+    ensures said { IsReadableCount name n → SaysIn report_rows (count_answer name n) result.items }
+{
+    count_line(name, n)
+}
+
+/// Writes the line of a count.
+#[tactic(auto, using(crate::proofs::Joined::texts))]
+fn count_line(name: Count, n: u64) -> Text
+    ensures { result.items ≡ count_text name n }
+{
+    match name {
+        Count::Runs => and_dec(start(b"runs"), n),
+        Count::Ticks => and_dec(start(b"ticks"), n),
+        Count::Bytes => and_dec(start(b"bytes"), n),
+    }
+}
+
+/// Writes an end line.
+///
+/// `read_report` reads it as an end, where the numbers are in its ranges.
+pub fn put_end(e: &End) -> Text
+    ensures text { result.items ≡ end_text e.now }
+    ensures said { IsReadableEnd e.now → SaysIn report_rows ReportLine.End result.items }
+{
+    end_line(*e)
+}
+
+/// Writes an end line.
+#[tactic(auto, using(crate::proofs::Joined::texts))]
+fn end_line(e: End) -> Text
+    ensures { result.items ≡ end_text e }
+{
+    match e {
+        End::Script => start(b"end script"),
+        End::Halt(v) => and_hex(start(b"end halt"), v, WORD_DIGITS),
+        End::Bad { line, column } => put_bad(line, column),
+        End::Outside { line, reason } => put_outside(line, reason),
+        End::TooLong { line } => and_dec(start(b"end toolong"), line),
+        End::Report => start(b"end report"),
+    }
+}
+
+/// Writes `end bad LINE COLUMN`.
+#[tactic(auto, using(crate::proofs::Joined::texts))]
+fn put_bad(line: u64, column: u32) -> Text
+    ensures { result.items ≡ end_text (End.Bad line column) }
+{
+    and_dec(and_dec(start(b"end bad"), line), column as u64)
+}
+
+/// Writes `end outside LINE` and the reason.
+fn put_outside(line: u64, reason: Reason) -> Text
+    ensures { result.items ≡ end_text (End.Outside line reason) }
+{
+    match reason {
+        Reason::Second { tainted, named } => put_second(line, tainted, named),
+        Reason::Slow { p, misses } => put_slow(line, p, misses),
+        Reason::BothBoards { board } => put_both_boards(line, board),
+    }
+}
+
+/// Writes `end outside LINE second T P`.
+#[tactic(auto, using(crate::proofs::Joined::texts))]
+fn put_second(line: u64, tainted: u8, named: u8) -> Text
+    ensures { result.items ≡ end_text (End.Outside line (Reason.Second tainted named)) }
+{
+    let text = and_word(and_dec(start(b"end outside"), line), b"second");
+    and_dec(and_dec(text, tainted as u64), named as u64)
+}
+
+/// Writes `end outside LINE slow P MISSES`.
+#[tactic(auto, using(crate::proofs::Joined::texts))]
+fn put_slow(line: u64, p: u8, misses: u8) -> Text
+    ensures { result.items ≡ end_text (End.Outside line (Reason.Slow p misses)) }
+{
+    let text = and_word(and_dec(start(b"end outside"), line), b"slow");
+    and_dec(and_dec(text, p as u64), misses as u64)
+}
+
+/// Writes `end outside LINE board B`.
+#[tactic(auto, using(crate::proofs::Joined::texts))]
+fn put_both_boards(line: u64, board: u8) -> Text
+    ensures { result.items ≡ end_text (End.Outside line (Reason.BothBoards board)) }
+{
+    let text = and_word(and_dec(start(b"end outside"), line), b"board");
+    and_dec(text, board as u64)
+}
