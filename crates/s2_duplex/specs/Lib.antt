@@ -1,0 +1,5 @@
+pub mod BoardParity
+pub mod ParityUnits
+pub mod DuplexBoards
+pub mod ToleratedFaults
+pub mod ContentsLaws
