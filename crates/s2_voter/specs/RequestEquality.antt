@@ -4,6 +4,7 @@ use Rattle.s2_ports.specs.declared.requests.Kind.{Kind}
 use Rattle.s2_ports.specs.declared.requests.Kind.TheVariants.{Load, Store, Sync}
 use Rattle.s2_ports.specs.declared.requests.Request.{Request}
 
+-- whether two requests ask for a thing of one kind
 abbrev pub is_same_kind : Kind → Kind → Bool
 is_same_kind Load Load = true
 is_same_kind Store Store = true

@@ -10,6 +10,7 @@ use Rattle.s2_voter.specs.declared.voter.TheConstants.{DECISION_TIMER}
 use Rattle.s2_voter.specs.RequestEquality.{is_same_request}
 use Rattle.s2_voter.specs.VoterState.{VoterState, is_member, latch_of}
 
+-- the numbers of the processors
 abbrev pub processors : List ℕ
 processors = 0 ∷ 1 ∷ 2 ∷ []
 
@@ -26,11 +27,12 @@ is_timed_out (Some age) = nat_le DECISION_TIMER age
 abbrev pub is_due : VoterState → Bool
 is_due v = list_all (λ p. not (is_unlatched v p)) processors || is_timed_out v.age
 
--- what a latch asks for, and whether it is this request
+-- what a latch asks for
 abbrev pub request_of : Option Posted → Option Request
 request_of None = None
 request_of (Some posted) = Some posted.request
 
+-- whether a latch asks for this request
 abbrev pub holds_request : Request → Option Posted → Bool
 holds_request request None = false
 holds_request request (Some posted) = is_same_request request posted.request
@@ -39,10 +41,11 @@ holds_request request (Some posted) = is_same_request request posted.request
 abbrev pub is_differing : VoterState → Request → ℕ → Bool
 is_differing v request p = is_member v p && (is_some (latch_of v p) && not (holds_request request (latch_of v p)))
 
--- the member that differs, and the member that is late, if any
+-- the member that differs, if any
 abbrev pub differing_member : VoterState → Request → Option ℕ
 differing_member v request = find (is_differing v request) processors
 
+-- the member that is late, if any
 abbrev pub late_member : VoterState → Option ℕ
 late_member v = find (is_unlatched v) processors
 
@@ -50,10 +53,11 @@ late_member v = find (is_unlatched v) processors
 abbrev pub done_with : VoterState → Request → Verdict
 done_with v request = Done request (differing_member v request) (late_member v)
 
--- the latched requests, and whether two latches hold a request
+-- the latched requests
 abbrev pub latched_requests : List (Option Posted) → List Request
 latched_requests latches = filter_map request_of latches
 
+-- whether two latches at least hold a request
 abbrev pub is_shared : List (Option Posted) → Request → Bool
 is_shared latches request = nat_lt 1 (count_by (holds_request request) latches)
 
@@ -70,5 +74,6 @@ abbrev pub first_that_holds : List (Bool × Verdict) → Verdict
 first_that_holds [] = Split
 first_that_holds (row ∷ rows) = if row.0 then row.1 else first_that_holds rows
 
+-- the verdict: that of the first row that holds
 abbrev pub verdict_of : VoterState → Verdict
 verdict_of v = first_that_holds (verdict_rows v)

@@ -49,5 +49,6 @@ abbrev pub older : Option ℕ → Option ℕ
 older None = None
 older (Some age) = Some (if nat_lt age DECISION_TIMER then age + 1 else age)
 
+-- the voter one tick later
 abbrev pub ticked_voter : VoterState → VoterState
 ticked_voter v = record v { age = older v.age }

@@ -20,5 +20,6 @@ pub record DecidesFor (v : VoterState) (p q : ℕ) (request : Request) : Type 0 
   pub differ : IfSome (differing_member v request) (λ named. (named ≢ p) × (named ≢ q))
   pub late : IfSome (late_member v) (λ named. (named ≢ p) × (named ≢ q))
 
+-- two equal latches decide, whatever the third holds
 abbrev pub TwoEqualLatchesDecide : Type 0
 TwoEqualLatchesDecide = (v : VoterState) (p q : ℕ) (request : Request) → TwoEqualLatches v p q request → DecidesFor v p q request

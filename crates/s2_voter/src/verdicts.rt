@@ -14,8 +14,11 @@ pub enum Verdict {
     /// At least two latched members ask for the request. The remaining member, if any, is named: it differs
     /// where its latch holds another request, and it is late where it has no latch.
     Done {
+        /// What the two ask for.
         request: Request,
+        /// The member that differs.
         differ: Option<u8>,
+        /// The member that is late.
         late: Option<u8>,
     },
     /// A decision is due, and no two latched requests are equal.
