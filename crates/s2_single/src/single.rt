@@ -1,0 +1,182 @@
+//! The machine of one processor.
+
+ghost use Rattle.std.specs.Prelude.{◌≡◌, ◌<◌, ◌++◌, ℕ, List, None, IfOk, length};
+ghost use Rattle.s2_base.specs.declared.map.TheConstants.{LOCAL_WORDS, GLOBAL_WORDS};
+ghost use Rattle.s2_machine.specs.Machine.{started};
+ghost use Rattle.s2_machine.specs.LocalWork.{ask_of};
+ghost use Rattle.s2_machine.specs.WriteBack.{with_lines};
+ghost use Rattle.s2_machine.specs.Cores.{core_cycle_by};
+ghost use Rattle.s2_machine.specs.R2000.{r2000};
+ghost use Rattle.s2_machine.specs.Cycle.{cycle};
+ghost use Rattle.s2_machine.specs.MachineRun.{after_cycle, after_delivery, bytes_of};
+ghost use Rattle.s2_single.specs.SingleMachine.{after_event, cycle_effect, in_run, machine_of};
+
+use crate::outside_access::access;
+use s2_base::Memory;
+use s2_core::{Ask, finish, work};
+use s2_cpu::Cpu;
+use s2_device::{Board, Effect};
+use s2_elf::Image;
+use s2_ports::{Event, Reply, Request};
+use s2_store::FlatStore;
+use std::alloc::Global;
+use std::marker::Model;
+
+/// One processor, its local memory and boot store, global memory, the devices, and the halt value, seen as
+/// the record of these. Only `new` takes memory.
+#[derive(Drop)]
+pub struct Single {
+    cpu: Cpu,
+    local: FlatStore,
+    global: FlatStore,
+    board: Board,
+    halt: Option<u32>,
+}
+
+impl Model for Single {
+    ghost use Rattle.std.specs.Prelude.{◌≡◌, length};
+    ghost use Rattle.s2_base.specs.declared.map.TheConstants.{LOCAL_WORDS, GLOBAL_WORDS};
+    ghost use Rattle.s2_machine.specs.Machine.{Machine};
+
+    ghost Value = { Machine };
+
+    ghost view = { λ s. record {
+      cpu = s.cpu;
+      local = s.local;
+      global = s.global;
+      device = s.board;
+      halt = s.halt;
+    } };
+
+    ghost invariant = { λ s. (length s.local ≡ LOCAL_WORDS) × (length s.global ≡ GLOBAL_WORDS) };
+}
+
+/// The processor sees these interrupt lines.
+fn set_lines(cpu: &mut Cpu, lines: u8)
+    requires { lines < 4 }
+    ensures { cpu.new ≡ with_lines cpu.old lines }
+{
+    cpu.lines = lines;
+}
+
+/// The end of a cycle that asked for an access: the access, and then the processor takes the word that it
+/// read and the lines of the devices.
+fn finish_outside(
+    cpu: &mut Cpu,
+    local: &mut FlatStore,
+    global: &mut FlatStore,
+    board: &mut Board,
+    request: Request,
+) -> Effect
+    requires local { length local.old ≡ LOCAL_WORDS }
+    requires global { length global.old ≡ GLOBAL_WORDS }
+    requires asked { ask_of cpu.old local.old ≡ Ask.Outside request }
+    requires mask { request.mask < 16 }
+    ensures cycle { core_cycle_by r2000 (machine_of cpu.old local.old global.old board.old None) (Ask.Outside request)
+        ≡ record { next = machine_of cpu.new local.new global.new board.new result.halt; out = result.out } }
+    ensures word { result.word ≡ 0 }
+    ensures local { length local.new ≡ LOCAL_WORDS }
+    ensures global { length global.new ≡ GLOBAL_WORDS }
+{
+    let effect = access(global, board, &request);
+    let reply = Reply {
+        word: effect.word,
+        lines: board.lines(),
+    };
+    finish(cpu, local, reply);
+    Effect {
+        word: 0,
+        out: effect.out,
+        halt: effect.halt,
+    }
+}
+
+/// A cycle of the parts of a machine that has not halted.
+fn cycle_of(
+    cpu: &mut Cpu,
+    local: &mut FlatStore,
+    global: &mut FlatStore,
+    board: &mut Board,
+) -> Effect
+    requires local { length local.old ≡ LOCAL_WORDS }
+    requires global { length global.old ≡ GLOBAL_WORDS }
+    ensures cycle { cycle (machine_of cpu.old local.old global.old board.old None)
+        ≡ record { next = machine_of cpu.new local.new global.new board.new result.halt; out = result.out } }
+    ensures word { result.word ≡ 0 }
+    ensures local { length local.new ≡ LOCAL_WORDS }
+    ensures global { length global.new ≡ GLOBAL_WORDS }
+{
+    match work(cpu, local) {
+        Ask::Local => Effect {
+            word: 0,
+            out: None,
+            halt: None,
+        },
+        Ask::Outside(request) => finish_outside(cpu, local, global, board, request),
+    }
+}
+
+impl Single {
+    /// The machine at the start of a program, whose words are copied once.
+    ///
+    /// `Memory` where the room for them, or for the keys that may wait, was refused.
+    pub fn new(alloc: Global, image: &Image) -> Result<Single, Memory>
+        ensures { IfOk result (λ s. s ≡ started image.now.entry image.now.local image.now.global) }
+    {
+        let local = FlatStore::new(alloc, image.local.as_slice())?;
+        let global = FlatStore::new(alloc, image.global.as_slice())?;
+        let board = Board::new(alloc)?;
+        Ok(Single {
+            cpu: Cpu::start(image.entry),
+            local,
+            global,
+            board,
+            halt: None,
+        })
+    }
+
+    /// An event acts on the devices at the run count as it is, before the next cycle, and the processor sees
+    /// their interrupt lines. It acts after a halt too; a run delivers nothing then.
+    pub fn deliver(&mut self, event: Event)
+        ensures machine { self.new ≡ after_event self.old event }
+        ensures run { (bytes : List ℕ) → self.old.halt ≡ None
+            → after_delivery (in_run self.old bytes) event ≡ in_run self.new bytes }
+    {
+        self.board.deliver(event);
+        set_lines(&mut self.cpu, self.board.lines());
+    }
+
+    /// One cycle of a machine that has not halted: the byte that it writes to the console, and the halt value
+    /// where it is the store to HALT. The effect's word is 0. Source: MIPS R2000 for the processor; the
+    /// devices, their lines and the halt are this project's own (`docs/MACHINE.md`).
+    pub fn cycle(&mut self) -> Effect
+        requires { self.old.halt ≡ None }
+        ensures machine { self.new ≡ (cycle self.old).next }
+        ensures effect { result ≡ cycle_effect self.old }
+        ensures run { (bytes : List ℕ)
+            → after_cycle (in_run self.old bytes) ≡ in_run self.new (bytes ++ bytes_of result.out) }
+    {
+        let effect = cycle_of(
+            &mut self.cpu,
+            &mut self.local,
+            &mut self.global,
+            &mut self.board,
+        );
+        self.halt = effect.halt;
+        effect
+    }
+
+    /// How many cycles were run, modulo 2^64.
+    pub fn run(&self) -> u64
+        ensures { result ≡ self.now.cpu.run }
+    {
+        self.cpu.run
+    }
+
+    /// The halt value: none exactly before the store to HALT.
+    pub fn halted(&self) -> Option<u32>
+        ensures { result ≡ self.now.halt }
+    {
+        self.halt
+    }
+}
