@@ -1,4 +1,4 @@
--- Bits that are packed into units: bit i of the list is bit i % UNIT_BITS of unit i / UNIT_BITS.
+-- For the parts of a board: bits that are packed into units: bit i of the list is bit i % UNIT_BITS of unit i / UNIT_BITS.
 use Rattle.std.specs.Prelude.{ℕ, ◌*◌, ◌/◌, ◌%◌, ◌==◌, List, length, map, Bool, slice_index}
 use Rattle.std.specs.List.{range_with_len}
 use Rattle.std.specs.Int.{bit_at}
