@@ -1,5 +1,6 @@
+pub mod FirstFalse
+pub mod HeaderLoops
 pub mod Room
 pub mod PlacedWords
-pub mod Accepting
 pub mod ImageWords
 pub mod Parts

@@ -5,8 +5,8 @@ use Rattle.std.proofs.lemmas.List.{get_or-set_same, get_or-set_other}
 use Rattle.std.specs.Int.{div_ceil}
 use Rattle.std.proofs.lemmas.Bool.Decides.{nat_tests}
 use Rattle.s2_elf.specs.Files.{ProgramHeader}
-use Rattle.s2_elf.specs.Images.{base_of, covers, segment_byte, placed_byte}
-use Rattle.s2_elf.specs.Placing.{placed_word}
+use Rattle.s2_elf.specs.Images.{base_of, covers, segment_byte}
+use Rattle.s2_elf.specs.Placing.{placed_byte, placed_word}
 
 -- a segment lies wholly above a number of bytes, or wholly below them
 abbrev pub IsApart : ProgramHeader → ℕ → ℕ → Type 0

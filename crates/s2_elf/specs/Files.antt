@@ -7,6 +7,7 @@ use Rattle.s2_base.specs.Map.{place_at, is_between}
 use Rattle.s2_base.specs.declared.places.Place.{Place}
 use Rattle.s2_base.specs.declared.places.Place.TheVariants.{Local, Boot, Global, Device, Nowhere}
 use Rattle.s2_base.specs.declared.map.TheConstants.{UNMAPPED_START, UNMAPPED_END, UNMAPPED_SIZE}
+use Rattle.s2_elf.specs.declared.headers.TheConstants.{FILE_HEADER_SIZE, PROGRAM_HEADER_SIZE, MAGIC, MOST_HEADERS, LOAD, DYNAMIC, INTERPRETER}
 use Rattle.s2_elf.specs.declared.fault.ElfFault.{ElfFault}
 use Rattle.s2_elf.specs.declared.fault.ElfFault.TheVariants.{Short, Magic, Class, Order, Version, Kind, Machine, TooMany, HeaderSize, TableOutside, Dynamic, Bounds, FileOutside, Placed, Entry}
 
@@ -24,8 +25,8 @@ entry_of bytes = number_at bytes 24
 abbrev pub table_of : List ℕ → ℕ
 table_of bytes = number_at bytes 28
 
-abbrev pub count_of : List ℕ → ℕ
-count_of bytes = half_at bytes 44
+abbrev pub header_count : List ℕ → ℕ
+header_count bytes = half_at bytes 44
 
 -- the fields of a program header that are looked at
 pub record ProgramHeader : Type 0 where
@@ -44,9 +45,12 @@ header_at bytes i = record {
   memsz = number_at bytes (i + 20);
 }
 
--- the program headers, 32 bytes each
+-- the program header of an index, 32 bytes each, and all of them
+abbrev pub program_header : List ℕ → ℕ → ProgramHeader
+program_header bytes i = header_at bytes (table_of bytes + PROGRAM_HEADER_SIZE * i)
+
 abbrev pub headers_of : List ℕ → List ProgramHeader
-headers_of bytes = map (λ i. header_at bytes (table_of bytes + 32 * i)) (range_with_len 0 (count_of bytes))
+headers_of bytes = map (program_header bytes) (range_with_len 0 (header_count bytes))
 
 -- local memory, boot store and global memory are loaded; an entry lies in the first two
 abbrev pub is_memory : Place → Bool
@@ -73,16 +77,16 @@ is_entry va = (va % 4 == 0) && is_between UNMAPPED_START va UNMAPPED_END && is_s
 -- the conditions on the table of program headers, each with its refusal, in their order
 abbrev pub table_conditions : List ℕ → List (Bool × ElfFault)
 table_conditions bytes =
-    (nat_le (count_of bytes) 64, TooMany (count_of bytes))
-    ∷ ((count_of bytes == 0 || half_at bytes 42 == 32), HeaderSize)
-    ∷ ((count_of bytes == 0 || nat_le (table_of bytes + 32 * count_of bytes) (length bytes)), TableOutside)
+    (nat_le (header_count bytes) MOST_HEADERS, TooMany (header_count bytes))
+    ∷ ((header_count bytes == 0 || half_at bytes 42 == PROGRAM_HEADER_SIZE), HeaderSize)
+    ∷ ((header_count bytes == 0 || nat_le (table_of bytes + PROGRAM_HEADER_SIZE * header_count bytes) (length bytes)), TableOutside)
     ∷ []
 
 -- the conditions on the file's header, and then those on the table
 abbrev pub file_conditions : List ℕ → List (Bool × ElfFault)
 file_conditions bytes =
-    (nat_le 52 (length bytes), Short (length bytes))
-    ∷ (number_at bytes 0 == 0x7F454C46, Magic)
+    (nat_le FILE_HEADER_SIZE (length bytes), Short (length bytes))
+    ∷ (number_at bytes 0 == MAGIC, Magic)
     ∷ (slice_index bytes 4 == 1, Class)
     ∷ (slice_index bytes 5 == 2, Order)
     ∷ ((slice_index bytes 6 == 1 && number_at bytes 20 == 1), Version)
@@ -90,12 +94,15 @@ file_conditions bytes =
     ∷ (half_at bytes 18 == 8, Machine)
     ∷ table_conditions bytes
 
--- no program header is dynamic linking's (2) or an interpreter (3)
+-- no program header is dynamic linking's or an interpreter's
+abbrev pub is_dynamic : ProgramHeader → Bool
+is_dynamic h = (h.kind == DYNAMIC) || (h.kind == INTERPRETER)
+
 abbrev pub static_conditions : ℕ → List ProgramHeader → List (Bool × ElfFault)
 static_conditions i [] = []
-static_conditions i (h ∷ hs) = (not (h.kind == 2 || h.kind == 3), Dynamic i) ∷ static_conditions (i + 1) hs
+static_conditions i (h ∷ hs) = (not (is_dynamic h), Dynamic i) ∷ static_conditions (i + 1) hs
 
--- the three conditions on a segment that is loaded (1): file bytes fit memory bytes, the file has them,
+-- the three conditions on a segment that is loaded: file bytes fit memory bytes, the file has them,
 -- and each byte of memory may be loaded
 abbrev pub segment_conditions : ℕ → ℕ → ProgramHeader → List (Bool × ElfFault)
 segment_conditions size i h =
@@ -104,15 +111,24 @@ segment_conditions size i h =
     ∷ (list_all (λ k. is_loadable (h.vaddr + k)) (range_with_len 0 h.memsz), Placed i)
     ∷ []
 
+-- those on a program header, where it is that of a segment that is loaded
+abbrev pub header_conditions : ℕ → ℕ → ProgramHeader → List (Bool × ElfFault)
+header_conditions size i h = if h.kind == LOAD then segment_conditions size i h else []
+
 abbrev pub load_conditions : ℕ → ℕ → List ProgramHeader → List (Bool × ElfFault)
 load_conditions size i [] = []
-load_conditions size i (h ∷ hs) = (if h.kind == 1 then segment_conditions size i h else []) ++ load_conditions size (i + 1) hs
+load_conditions size i (h ∷ hs) = header_conditions size i h ++ load_conditions size (i + 1) hs
 
--- all conditions of a file, in their order
+-- a program begins at a place of code
+abbrev pub entry_conditions : List ℕ → List (Bool × ElfFault)
+entry_conditions bytes = (is_entry (entry_of bytes), Entry) ∷ []
+
+-- the conditions behind those on the file's header, and all of them, in their order
+abbrev pub rest_conditions : List ℕ → List (Bool × ElfFault)
+rest_conditions bytes = static_conditions 0 (headers_of bytes) ++ (load_conditions (length bytes) 0 (headers_of bytes) ++ entry_conditions bytes)
+
 abbrev pub conditions : List ℕ → List (Bool × ElfFault)
-conditions bytes =
-    ((file_conditions bytes ++ static_conditions 0 (headers_of bytes)) ++ load_conditions (length bytes) 0 (headers_of bytes))
-    ++ (is_entry (entry_of bytes), Entry) ∷ []
+conditions bytes = file_conditions bytes ++ rest_conditions bytes
 
 -- the first condition that is false
 abbrev pub first_false : List (Bool × ElfFault) → Option ElfFault
@@ -125,10 +141,3 @@ refusal bytes = first_false (conditions bytes)
 -- every condition holds
 abbrev pub accepts : List ℕ → Bool
 accepts bytes = list_all (λ (c : Bool × ElfFault). c.0) (conditions bytes)
-
--- the files that the loader reads today: one program header, and it is a segment that is loaded
-abbrev pub is_single : List ℕ → Bool
-is_single bytes = (count_of bytes == 1) && ((header_at bytes (table_of bytes)).kind == 1)
-
-abbrev pub is_readable : List ℕ → Bool
-is_readable bytes = is_single bytes && accepts bytes

@@ -1,15 +1,17 @@
 -- What the loader answers.
-use Rattle.std.specs.Prelude.{ℕ, ◌≡◌, true, false, List, Ok, Err}
-use Rattle.std.specs.declared.result.Result.{Result}
+use Rattle.std.specs.Prelude.{ℕ, ◌≡◌, true, List, Some}
 use Rattle.s2_elf.specs.declared.fault.ElfFail.{ElfFail}
-use Rattle.s2_elf.specs.declared.fault.ElfFail.TheVariants.{Fault, NotBuilt, Memory}
+use Rattle.s2_elf.specs.declared.fault.ElfFail.TheVariants.{Fault, Memory}
 use Rattle.s2_elf.specs.MemoryImage.{MemoryImage}
-use Rattle.s2_elf.specs.Files.{is_readable}
+use Rattle.s2_elf.specs.Files.{accepts, refusal}
 use Rattle.s2_elf.specs.Images.{image_of}
 
--- a file that is readable gives its image, and each other one is not built; want of memory is free
-abbrev pub ReadsElf : List ℕ → Result MemoryImage ElfFail → Type 0
-ReadsElf bytes (Ok image) = (is_readable bytes ≡ true) × (image ≡ image_of bytes)
-ReadsElf bytes (Err NotBuilt) = is_readable bytes ≡ false
-ReadsElf bytes (Err Memory) = Unit {0}
-ReadsElf bytes (Err (Fault fault)) = ⊥
+-- an image comes of a file that is accepted, and is that file's
+pub record IsImageOf (bytes : List ℕ) (image : MemoryImage) : Type 0 where
+  pub accepted : accepts bytes ≡ true
+  pub same : image ≡ image_of bytes
+
+-- a refusal names the first condition that is false; want of memory is free
+abbrev pub IsRefusalOf : List ℕ → ElfFail → Type 0
+IsRefusalOf bytes (Fault fault) = refusal bytes ≡ Some fault
+IsRefusalOf bytes Memory = Unit {0}

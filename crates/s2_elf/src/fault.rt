@@ -58,10 +58,8 @@ pub enum ElfFault {
 /// Why the loader gives no image.
 #[derive(Debug, Drop, Clone, Copy, PartialEq, Eq)]
 pub enum ElfFail {
-    /// The file is refused, with the first condition that is false. It does not come yet.
+    /// The file is refused, with the first condition that is false.
     Fault(ElfFault),
-    /// The file is not one that the loader reads today.
-    NotBuilt,
     /// Memory was refused.
     Memory,
 }

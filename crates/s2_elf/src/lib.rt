@@ -12,4 +12,4 @@ mod tests;
 
 pub use fault::{ElfFail, ElfFault};
 pub use image::Image;
-pub use reader::read_elf;
+pub use reader::{blank, read_elf};

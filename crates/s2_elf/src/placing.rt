@@ -2,8 +2,7 @@
 
 ghost use Rattle.std.specs.Prelude.{◌≡◌, ℕ, ◌+◌, ◌*◌, ◌^◌, ◌<◌, ◌≤◌, ◌⊎◌, List, length, slice_index};
 ghost use Rattle.s2_base.specs.declared.map.TheConstants.{BOOT_START};
-ghost use Rattle.s2_elf.specs.Images.{placed_byte};
-ghost use Rattle.s2_elf.specs.Placing.{header_of, local_address_at, placed_word, HasFileBytes};
+ghost use Rattle.s2_elf.specs.Placing.{placed_byte, header_of, local_address_at, placed_word, HasFileBytes};
 
 use crate::headers::SegmentHeader;
 use s2_base::{BOOT_START, LOCAL_START};

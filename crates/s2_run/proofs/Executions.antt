@@ -4,7 +4,6 @@ use Rattle.std.specs.Prelude.{Some, None, ◌^◌, ◌⊎◌, is_some}
 use Rattle.std.specs.declared.option.Option.{Option}
 use Rattle.std.proofs.lemmas.Bool.{cases_lt}
 use Rattle.s2_run.specs.BuiltCycles.{is_built}
-use Rattle.s2_machine.specs.Machine.{Machine}
 use Rattle.s2_machine.specs.Cycle.{cycle}
 use Rattle.s2_machine.specs.R2000.{r2000}
 use Rattle.s2_machine.specs.MachineRun.{RunState, after_cycle, run_of_cycles}
@@ -12,10 +11,14 @@ use Rattle.s2_core.proofs.CoreFacts.{r2000_core, each_cycle_counts}
 use Rattle.s2_elf.specs.MemoryImage.{MemoryImage}
 use Rattle.s2_run.specs.Transcript.{Outlet, Console, Report, for_outlet}
 use Rattle.s2_run.specs.ReportText.{end_lines}
-use Rattle.s2_run.specs.Execution.{alone, Halts, Stops, halt_transcript, stop_transcript, can_continue, bounded_run, run_within, status_at, transcript_at, end_lines_at, cycle_limit, started_image}
-use Rattle.s2_run.specs.Endings.{Ends}
-use Rattle.s2_run.specs.declared.status.Status.{Status}
-use Rattle.s2_run.specs.declared.status.Status.TheVariants.{Done, NotBuilt}
+use Rattle.s2_run.specs.Execution.{alone, Halts, Stops, halt_transcript, stop_transcript, can_continue, bounded_run, run_within, end_at, transcript_at, end_lines_at, cycle_limit, started_image}
+use Rattle.std.specs.declared.result.Result.{Result}
+use Rattle.s2_run.specs.RunCommand.{Ends}
+use Rattle.s2_run.specs.declared.run.ProgramEnd.{ProgramEnd}
+use Rattle.s2_run.specs.declared.run.ProgramEnd.TheVariants.{Halted, Unbuilt}
+use Rattle.s2_run.specs.declared.run.RunEnd.{RunEnd}
+use Rattle.s2_run.specs.declared.run.RunEnd.TheVariants.{Program}
+use Rattle.s2_run.specs.declared.run.RunFault.{RunFault}
 use Rattle.s2_run.proofs.Progress.{on_by, stay, goes, stuck, over, cycled_is}
 
 -- so many cycles, one after the other
@@ -73,8 +76,8 @@ transcript_stopped ran running =
     ap (λ (o : Option ℕ). for_outlet Console ran.bytes ++ for_outlet Report (end_lines_at ran o)) running ∙ append-nil (for_outlet Console ran.bytes)
 
 -- an execution ends with this status and this transcript
-pub record EndsWith (image : MemoryImage) (limit : ℕ) (status : Status) (transcript : List (Outlet × ℕ)) : Type 0 where
-  pub status_is : status_at (run_within (started_image image) limit).machine.halt ≡ status
+pub record EndsWith (image : MemoryImage) (limit : ℕ) (end : ProgramEnd) (transcript : List (Outlet × ℕ)) : Type 0 where
+  pub end_is : end_at (run_within (started_image image) limit).machine.halt ≡ end
   pub transcript_is : transcript_at (run_within (started_image image) limit) ≡ transcript
 
 runs_of : (image : MemoryImage) (k : ℕ) → ((j : ℕ) → j < k → is_built (alone image j).machine ≡ true) → ((j : ℕ) → j < k → (alone image j).machine.halt ≡ None) → Runs (fresh image) k
@@ -84,7 +87,7 @@ runs_of image k built running = record {
 }
 
 -- where a program halts, its run ends so
-pub halts_end : (image : MemoryImage) (limit k value : ℕ) → limit < 2 ^ 64 → Halts image limit k value → EndsWith image limit Done (halt_transcript image k value)
+pub halts_end : (image : MemoryImage) (limit k value : ℕ) → limit < 2 ^ 64 → Halts image limit k value → EndsWith image limit Halted (halt_transcript image k value)
 halts_end image limit k value small h =
     let runs = runs_of image k h.built h.running in
     let same = alone_after image k in
@@ -93,7 +96,7 @@ halts_end image limit k value small h =
     let below : k < 2 ^ 64 = omega (arith, h.within) in
     let count : (alone image k).machine.cpu.run ≡ k = ap (λ (q : RunState). q.machine.cpu.run) same ∙ run_count (fresh image) k refl below runs in
     record {
-      status_is = ap (λ (q : RunState). status_at q.machine.halt) end ∙ ap status_at halted;
+      end_is = ap (λ (q : RunState). end_at q.machine.halt) end ∙ ap end_at halted;
       transcript_is = ap transcript_at (end ∙ sym same) ∙ transcript_halted (alone image k) k value h.halted count;
     }
 
@@ -102,22 +105,22 @@ stays_by image limit k (inl none) = stay (limit - k) (after k (fresh image)) (st
 stays_by image limit k (inr all) = let nothing : limit - k ≡ 0 = omega arith in ap (λ (n : ℕ). bounded_run n (after k (fresh image))) nothing
 
 -- where a program stops, its run ends so
-pub stops_end : (image : MemoryImage) (limit k : ℕ) → Stops image limit k → EndsWith image limit (NotBuilt 1) (stop_transcript image k)
+pub stops_end : (image : MemoryImage) (limit k : ℕ) → Stops image limit k → EndsWith image limit Unbuilt (stop_transcript image k)
 stops_end image limit k h =
     let runs = runs_of image k h.built (λ j b. h.running j (omega arith)) in
     let same = alone_after image k in
     let here : (alone image k).machine.halt ≡ None = h.running k (omega arith) in
     let end : run_within (started_image image) limit ≡ after k (fresh image) = run_after (fresh image) limit k h.within runs ∙ stays_by image limit k h.stopped in
     record {
-      status_is = ap (λ (q : RunState). status_at q.machine.halt) (end ∙ sym same) ∙ ap status_at here;
+      end_is = ap (λ (q : RunState). end_at q.machine.halt) (end ∙ sym same) ∙ ap end_at here;
       transcript_is = ap transcript_at (end ∙ sym same) ∙ transcript_stopped (alone image k) here;
     }
 
 -- an answer to an execution is one to its end
-pub ends_with : {image : MemoryImage} {limit : ℕ} {status : Status} {transcript : List (Outlet × ℕ)} (answer : Status) (console console' report report' : Option (List ℕ)) → EndsWith image limit status transcript → Ends (status_at (run_within (started_image image) limit).machine.halt) (transcript_at (run_within (started_image image) limit)) answer console console' report report' → Ends status transcript answer console console' report report'
-ends_with {image} {limit} {status} {transcript} answer console console' report report' e h =
-    subst (λ (t : List (Outlet × ℕ)). Ends status t answer console console' report report') e.transcript_is
-    (subst (λ (st : Status). Ends st (transcript_at (run_within (started_image image) limit)) answer console console' report report') e.status_is h)
+pub ends_with : {image : MemoryImage} {limit : ℕ} {end : ProgramEnd} {transcript : List (Outlet × ℕ)} (outcome : Result RunEnd RunFault) (console console' report report' : Option (List ℕ)) → EndsWith image limit end transcript → Ends (Program (end_at (run_within (started_image image) limit).machine.halt)) (transcript_at (run_within (started_image image) limit)) outcome console console' report report' → Ends (Program end) transcript outcome console console' report report'
+ends_with {image} {limit} {end} {transcript} outcome console console' report report' e h =
+    subst (λ (t : List (Outlet × ℕ)). Ends (Program end) t outcome console console' report report') e.transcript_is
+    (subst (λ (x : ProgramEnd). Ends (Program x) (transcript_at (run_within (started_image image) limit)) outcome console console' report report') e.end_is h)
 
 -- the limit is small
 pub limit_small : (n : ℕ) → cycle_limit n < 2 ^ 64
@@ -178,18 +181,18 @@ decides_by image limit (suc n) k e r =
 decides : (image : MemoryImage) (limit : ℕ) → HaltsSomewhere image limit ⊎ StopsSomewhere image limit
 decides image limit = decides_by image limit limit 0 (omega arith) (going_none image limit)
 
-halts_by : (image : MemoryImage) (limit : ℕ) → status_at (run_within (started_image image) limit).machine.halt ≡ Done → HaltsSomewhere image limit ⊎ StopsSomewhere image limit → HaltsSomewhere image limit
+halts_by : (image : MemoryImage) (limit : ℕ) → end_at (run_within (started_image image) limit).machine.halt ≡ Halted → HaltsSomewhere image limit ⊎ StopsSomewhere image limit → HaltsSomewhere image limit
 halts_by image limit h (inl w) = w
-halts_by image limit h (inr w) = absurd (let e = (stops_end image limit w.cycles w.stops).status_is in cc)
+halts_by image limit h (inr w) = absurd (let e = (stops_end image limit w.cycles w.stops).end_is in cc)
 
 -- where a run ends as one that halts, the program halts
-pub halts_only : (image : MemoryImage) (limit : ℕ) → status_at (run_within (started_image image) limit).machine.halt ≡ Done → HaltsSomewhere image limit
+pub halts_only : (image : MemoryImage) (limit : ℕ) → end_at (run_within (started_image image) limit).machine.halt ≡ Halted → HaltsSomewhere image limit
 halts_only image limit h = halts_by image limit h (decides image limit)
 
-stops_by : (image : MemoryImage) (limit : ℕ) → limit < 2 ^ 64 → status_at (run_within (started_image image) limit).machine.halt ≡ NotBuilt 1 → HaltsSomewhere image limit ⊎ StopsSomewhere image limit → StopsSomewhere image limit
+stops_by : (image : MemoryImage) (limit : ℕ) → limit < 2 ^ 64 → end_at (run_within (started_image image) limit).machine.halt ≡ Unbuilt → HaltsSomewhere image limit ⊎ StopsSomewhere image limit → StopsSomewhere image limit
 stops_by image limit small h (inr w) = w
-stops_by image limit small h (inl w) = absurd (let e = (halts_end image limit w.cycles w.value small w.halts).status_is in cc)
+stops_by image limit small h (inl w) = absurd (let e = (halts_end image limit w.cycles w.value small w.halts).end_is in cc)
 
 -- where a run ends as one that stops, the program stops
-pub stops_only : (image : MemoryImage) (limit : ℕ) → limit < 2 ^ 64 → status_at (run_within (started_image image) limit).machine.halt ≡ NotBuilt 1 → StopsSomewhere image limit
+pub stops_only : (image : MemoryImage) (limit : ℕ) → limit < 2 ^ 64 → end_at (run_within (started_image image) limit).machine.halt ≡ Unbuilt → StopsSomewhere image limit
 stops_only image limit small h = stops_by image limit small h (decides image limit)

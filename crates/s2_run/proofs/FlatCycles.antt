@@ -1,5 +1,5 @@
 -- A cycle of a machine whose devices are quiet.
-use Rattle.std.proofs.Common.{◌≡◌, ℕ, Bool, true, false, List, Some, None, refl, sym, ap, ◌∙◌, cond}
+use Rattle.std.proofs.Common.{◌≡◌, ℕ, Bool, false, List, Some, None, refl, sym, ap, ◌∙◌, cond}
 use Rattle.std.specs.declared.option.Option.{Option}
 use Rattle.s2_base.specs.Map.{place_at}
 use Rattle.s2_base.specs.declared.places.Place.{Place}
@@ -14,7 +14,6 @@ use Rattle.s2_machine.specs.R2000.{r2000}
 use Rattle.s2_machine.specs.declared.ask.Ask.{Ask}
 use Rattle.s2_machine.specs.declared.ask.Ask.TheVariants.{Local, Outside}
 use Rattle.s2_run.specs.BuiltCycles.{is_built_place, next_by, answer_by, next_built, cycle_answer}
-use Rattle.s2_run.specs.declared.flat.CycleAnswer.{CycleAnswer}
 use Rattle.s2_run.specs.declared.flat.CycleAnswer.TheVariants.{Run}
 
 -- a machine whose devices are quiet

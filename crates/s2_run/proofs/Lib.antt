@@ -1,7 +1,12 @@
 pub mod FlatCycles
 pub mod Pieces
-pub mod Lines
+pub mod WordLists
+pub mod FirstLine
+pub mod TickLines
+pub mod LineList
+pub mod Checking
 pub mod Progress
 pub mod Transcripts
 pub mod Executions
-pub mod Reasons
+pub mod Refusals
+pub mod RunEnds

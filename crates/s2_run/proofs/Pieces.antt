@@ -1,10 +1,11 @@
 -- What a sink has taken, piece by piece.
-use Rattle.std.proofs.Common.{◌≡◌, ℕ, ◌+◌, ◌-◌, List, [], ◌++◌, take, drop, length, length-drop, append_assoc, append-nil, length-append, refl, sym, ap, arith, ◌∙◌}
+use Rattle.std.proofs.Common.{◌≡◌, ℕ, ◌+◌, ◌-◌, List, [], ◌∷◌, ◌++◌, take, drop, length, length-drop, append_assoc, append-nil, length-append, refl, sym, ap, arith, ◌∙◌}
 use Rattle.std.specs.Prelude.{Some, None}
 use Rattle.std.specs.declared.option.Option.{Option}
 use Rattle.std.proofs.lemmas.Grind.{common_steps}
 use Rattle.std.proofs.Math.Seq.{take-add, take-append-add}
 use Rattle.s2_io.specs.Sinks.{appended}
+use Rattle.s2_run.specs.ReportText.{line_with}
 
 -- two pieces are one
 pub appended_twice : (o : Option (List ℕ)) (xs ys : List ℕ) → appended (appended o xs) ys ≡ appended o (xs ++ ys)
@@ -33,3 +34,11 @@ pub take_over_two : (xs ys zs : List ℕ) (n : ℕ) → (xs ++ ys) ++ take n zs 
 take_over_two xs ys zs n = take_over (xs ++ ys) zs n ∙ ap (λ (k : ℕ). take (k + n) ((xs ++ ys) ++ zs)) (length-append xs ys)
 
 pub ruleset pieces = (appended_twice, appended_none, rest_is, take_on, take_over, take_over_two)
+
+-- two lines have two line feeds
+pub two_lines : (xs ys : List ℕ) → length (line_with xs ++ line_with ys) ≡ length xs + length ys + 2
+two_lines xs ys = omega (arith, length-append (line_with xs) (line_with ys), length-append xs (10 ∷ []), length-append ys (10 ∷ []))
+
+-- a whole piece, and then a front of the next
+pub appended_front : (o o' o'' : Option (List ℕ)) (xs ys : List ℕ) (n : ℕ) → o' ≡ appended o xs → o'' ≡ appended o' (take n ys) → o'' ≡ appended o (take (length xs + n) (xs ++ ys))
+appended_front o o' o'' xs ys n first second = second ∙ (ap (λ (q : Option (List ℕ)). appended q (take n ys)) first ∙ (appended_twice o xs (take n ys) ∙ ap (appended o) (take_over xs ys n)))

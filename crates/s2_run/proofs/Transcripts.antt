@@ -8,9 +8,13 @@ use Rattle.s2_machine.specs.Machine.{Machine}
 use Rattle.s2_machine.specs.MachineRun.{RunState}
 use Rattle.s2_io.specs.Sinks.{appended}
 use Rattle.s2_run.specs.ReportText.{end_lines}
-use Rattle.s2_run.specs.Execution.{end_lines_at, status_at, transcript_at}
-use Rattle.s2_run.specs.Endings.{Ends}
-use Rattle.s2_run.specs.declared.status.Status.TheVariants.{Done, WriteFault, NotBuilt}
+use Rattle.std.specs.Prelude.{Ok, Err}
+use Rattle.s2_run.specs.Execution.{end_lines_at, end_at, transcript_at}
+use Rattle.s2_run.specs.RunCommand.{Ends}
+use Rattle.s2_run.specs.declared.output.StreamFault.TheVariants.{Write}
+use Rattle.s2_run.specs.declared.run.ProgramEnd.TheVariants.{Halted, Unbuilt}
+use Rattle.s2_run.specs.declared.run.RunEnd.TheVariants.{Program}
+use Rattle.s2_run.specs.declared.run.RunFault.TheVariants.{Stream}
 use Rattle.s2_run.specs.Transcript.{Outlet, Console, Report, for_outlet, console_of, report_of, Written}
 use Rattle.s2_run.proofs.Pieces.{appended_none}
 
@@ -81,24 +85,24 @@ pub lines_none : (ran : RunState) (m : Machine) → m ≡ ran.machine → m.halt
 lines_none ran m same halt = ap (end_lines_at ran) (ap (λ (q : Machine). q.halt) (sym same) ∙ halt)
 
 -- how an execution ends, by what the console and the report took
-pub ends_cut : (ran : RunState) (n : ℕ) (console console' report : Option (List ℕ)) → n < length ran.bytes → console' ≡ appended console (take n ran.bytes) → Ends (status_at ran.machine.halt) (transcript_at ran) WriteFault console console' report report
+pub ends_cut : (ran : RunState) (n : ℕ) (console console' report : Option (List ℕ)) → n < length ran.bytes → console' ≡ appended console (take n ran.bytes) → Ends (Program (end_at ran.machine.halt)) (transcript_at ran) (Err (Stream Write)) console console' report report
 ends_cut ran n console console' report short took = (n, written_console ran.bytes (end_lines_at ran ran.machine.halt) n console console' report (omega arith) took)
 
-pub ends_stopped : (ran : RunState) (m : Machine) (console console' report : Option (List ℕ)) → m ≡ ran.machine → m.halt ≡ None → console' ≡ appended console ran.bytes → Ends (status_at ran.machine.halt) (transcript_at ran) (NotBuilt 1) console console' report report
+pub ends_stopped : (ran : RunState) (m : Machine) (console console' report : Option (List ℕ)) → m ≡ ran.machine → m.halt ≡ None → console' ≡ appended console ran.bytes → Ends (Program (end_at ran.machine.halt)) (transcript_at ran) (Ok (Program Unbuilt)) console console' report report
 ends_stopped ran m console console' report same halt took =
     let halt' : ran.machine.halt ≡ None = ap (λ (q : Machine). q.halt) (sym same) ∙ halt in (
-      ap status_at (sym halt'),
+      ap (λ (o : Option ℕ). Program (end_at o)) (sym halt'),
       written_both ran.bytes (end_lines_at ran ran.machine.halt) console console' report report took (sym (appended_none report) ∙ ap (appended report) (sym (lines_none ran m same halt))),
     )
 
-pub ends_done : (ran : RunState) (m : Machine) (runs written value : ℕ) (console console' report report' : Option (List ℕ)) → m ≡ ran.machine → m.halt ≡ Some value → runs ≡ m.cpu.run → written ≡ length ran.bytes → console' ≡ appended console ran.bytes → report' ≡ appended report (end_lines runs runs written value) → Ends (status_at ran.machine.halt) (transcript_at ran) Done console console' report report'
+pub ends_done : (ran : RunState) (m : Machine) (runs written value : ℕ) (console console' report report' : Option (List ℕ)) → m ≡ ran.machine → m.halt ≡ Some value → runs ≡ m.cpu.run → written ≡ length ran.bytes → console' ≡ appended console ran.bytes → report' ≡ appended report (end_lines runs runs written value) → Ends (Program (end_at ran.machine.halt)) (transcript_at ran) (Ok (Program Halted)) console console' report report'
 ends_done ran m runs written value console console' report report' same halt run count took lines =
     let halt' : ran.machine.halt ≡ Some value = ap (λ (q : Machine). q.halt) (sym same) ∙ halt in (
-      ap status_at (sym halt'),
+      ap (λ (o : Option ℕ). Program (end_at o)) (sym halt'),
       written_both ran.bytes (end_lines_at ran ran.machine.halt) console console' report report' took (lines ∙ ap (appended report) (lines_halted ran m runs written value same run count halt)),
     )
 
-pub ends_report_cut : (ran : RunState) (m : Machine) (runs written value n : ℕ) (console console' report report' : Option (List ℕ)) → m ≡ ran.machine → m.halt ≡ Some value → runs ≡ m.cpu.run → written ≡ length ran.bytes → console' ≡ appended console ran.bytes → report' ≡ appended report (take n (end_lines runs runs written value)) → Ends (status_at ran.machine.halt) (transcript_at ran) WriteFault console console' report report'
+pub ends_report_cut : (ran : RunState) (m : Machine) (runs written value n : ℕ) (console console' report report' : Option (List ℕ)) → m ≡ ran.machine → m.halt ≡ Some value → runs ≡ m.cpu.run → written ≡ length ran.bytes → console' ≡ appended console ran.bytes → report' ≡ appended report (take n (end_lines runs runs written value)) → Ends (Program (end_at ran.machine.halt)) (transcript_at ran) (Err (Stream Write)) console console' report report'
 ends_report_cut ran m runs written value n console console' report report' same halt run count took lines = (
   length ran.bytes + n,
   written_report ran.bytes (end_lines_at ran ran.machine.halt) n console console' report report' took (lines ∙ ap (λ (es : List ℕ). appended report (take n es)) (lines_halted ran m runs written value same run count halt)),

@@ -1,5 +1,5 @@
 -- Which cycles are built, and what the flat machine does for one that is not.
-use Rattle.std.specs.Prelude.{ℕ, ◌==◌, ◌||◌, Bool, true, false, if◌then◌else◌}
+use Rattle.std.specs.Prelude.{◌==◌, ◌||◌, Bool, true, if◌then◌else◌}
 use Rattle.s2_base.specs.Map.{place_at}
 use Rattle.s2_base.specs.declared.devices.TheConstants.{CONOUT, HALT}
 use Rattle.s2_base.specs.declared.places.Place.{Place}

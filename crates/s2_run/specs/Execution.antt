@@ -8,8 +8,8 @@ use Rattle.s2_elf.specs.MemoryImage.{MemoryImage}
 use Rattle.s2_run.specs.declared.limits.TheConstants.{FIRST_REFRESH}
 use Rattle.s2_run.specs.Transcript.{Outlet, Console, Report, for_outlet}
 use Rattle.s2_run.specs.ReportText.{end_lines}
-use Rattle.s2_run.specs.declared.status.Status.{Status}
-use Rattle.s2_run.specs.declared.status.Status.TheVariants.{Done, NotBuilt}
+use Rattle.s2_run.specs.declared.run.ProgramEnd.{ProgramEnd}
+use Rattle.s2_run.specs.declared.run.ProgramEnd.TheVariants.{Halted, Unbuilt}
 
 -- the machine of a program at its start
 abbrev pub started_image : MemoryImage → Machine
@@ -60,10 +60,10 @@ bounded_run (suc n) ran = if can_continue ran.machine then bounded_run n (after_
 abbrev pub run_within : Machine → ℕ → RunState
 run_within m n = bounded_run n (record { machine = m; bytes = [] })
 
--- the status and the transcript of an execution that came to this
-abbrev pub status_at : Option ℕ → Status
-status_at (Some value) = Done
-status_at None = NotBuilt 1
+-- the end and the transcript of an execution that came to this
+abbrev pub end_at : Option ℕ → ProgramEnd
+end_at (Some value) = Halted
+end_at None = Unbuilt
 
 abbrev pub end_lines_at : RunState → Option ℕ → List ℕ
 end_lines_at ran (Some value) = end_lines ran.machine.cpu.run ran.machine.cpu.run (length ran.bytes) value

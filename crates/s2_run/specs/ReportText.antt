@@ -1,28 +1,42 @@
 -- The lines of a report, each with its line feed.
-use Rattle.std.specs.Prelude.{ℕ, ◌+◌, ◌/◌, ◌%◌, List, [], ◌∷◌, ◌++◌, codes, decimal, nat_lt, if◌then◌else◌}
+use Rattle.std.specs.Prelude.{ℕ, List, [], ◌∷◌, ◌++◌, codes}
+use Rattle.s2_elf.specs.declared.fault.ElfFault.{ElfFault}
+use Rattle.s2_text.specs.HexText.{hex_text}
+use Rattle.s2_run.specs.RefusalText.{counted_text, refusal_text}
+use Rattle.s2_run.specs.declared.check.Verdict.{Verdict}
+use Rattle.s2_run.specs.declared.check.Verdict.TheVariants.{Passed, Bad, TooLong}
 
--- a name, a space and a decimal number
-abbrev pub count_line : List ℕ → ℕ → List ℕ
-count_line name n = (name ++ 32 ∷ decimal n) ++ 10 ∷ []
-
--- a digit of base 16: `0` to `9`, `a` to `f`
-abbrev pub hex_digit : ℕ → ℕ
-hex_digit d = if nat_lt d 10 then 48 + d else 87 + d
-
--- a word as eight digits of base 16
-abbrev pub hex_word : ℕ → List ℕ
-hex_word v =
-    hex_digit (v / 0x10000000) ∷ hex_digit (v / 0x01000000 % 16) ∷ hex_digit (v / 0x00100000 % 16) ∷ hex_digit (v / 0x00010000 % 16)
-    ∷ hex_digit (v / 0x00001000 % 16) ∷ hex_digit (v / 0x00000100 % 16) ∷ hex_digit (v / 0x00000010 % 16) ∷ hex_digit (v % 16) ∷ []
+-- a text and its line feed
+abbrev pub line_with : List ℕ → List ℕ
+line_with text = text ++ 10 ∷ []
 
 -- the end of a run that halted with a word
-abbrev pub halt_line : ℕ → List ℕ
-halt_line value = (codes "end halt " ++ hex_word value) ++ 10 ∷ []
+abbrev pub halt_text : ℕ → List ℕ
+halt_text value = codes "end halt" ++ 32 ∷ hex_text 8 value
 
 -- the end lines of a run: its run cycles, its ticks, its console bytes, and the halt value
 abbrev pub end_lines : ℕ → ℕ → ℕ → ℕ → List ℕ
-end_lines runs ticks bytes value = (count_line (codes "runs") runs ++ count_line (codes "ticks") ticks) ++ (count_line (codes "bytes") bytes ++ halt_line value)
+end_lines runs ticks bytes value =
+    (line_with (counted_text (codes "runs") runs) ++ line_with (counted_text (codes "ticks") ticks))
+    ++ (line_with (counted_text (codes "bytes") bytes) ++ line_with (halt_text value))
+
+-- words that ask for nothing that is offered
+abbrev pub usage_line : List ℕ
+usage_line = line_with (codes "usage")
 
 -- a file that is too big
 abbrev pub too_big_line : List ℕ
-too_big_line = codes "toobig\n"
+too_big_line = line_with (codes "toobig")
+
+-- a file that is refused
+abbrev pub elf_line : ElfFault → List ℕ
+elf_line fault = line_with (codes "elf" ++ 32 ∷ refusal_text fault)
+
+-- what a check of a script came to
+abbrev pub verdict_text : Verdict → List ℕ
+verdict_text Passed = codes "ok"
+verdict_text (Bad line column) = counted_text (counted_text (codes "bad") line) column
+verdict_text (TooLong line) = counted_text (codes "toolong") line
+
+abbrev pub verdict_line : Verdict → List ℕ
+verdict_line verdict = line_with (verdict_text verdict)

@@ -1,8 +1,6 @@
--- The one line of a script that is run today, and the words of the command.
-use Rattle.std.specs.Prelude.{ℕ, ◌≡◌, ◌+◌, ◌≤◌, ◌==◌, List, [], ◌∷◌, ◌++◌, codes, decimal, length, min, take, Some, None, if◌then◌else◌}
-use Rattle.std.specs.declared.option.Option.{Option}
+-- The one line of a script that is run today.
+use Rattle.std.specs.Prelude.{ℕ, ◌≡◌, ◌+◌, ◌≤◌, ◌==◌, List, [], ◌∷◌, ◌++◌, codes, decimal, length, min, take, if◌then◌else◌}
 use Rattle.s2_run.specs.declared.limits.TheConstants.{TICK_LIMIT}
-use Rattle.std.specs.Str.{bytes_eq}
 
 -- the bytes before the first line feed, or all of them
 abbrev pub line_of : List ℕ → List ℕ
@@ -22,10 +20,3 @@ pub record IsTicks (line : List ℕ) (n : ℕ) : Type 0 where
   pub text : line ≡ codes "t 7 " ++ decimal n
   pub positive : 1 ≤ n
   pub bounded : n ≤ TICK_LIMIT
-
--- the file's name, where the words are `run NAME`
-abbrev pub run_name : List (List ℕ) → Option (List ℕ)
-run_name [] = None
-run_name (command ∷ []) = None
-run_name (command ∷ name ∷ []) = if bytes_eq command (codes "run") then Some name else None
-run_name (command ∷ name ∷ more ∷ words) = None

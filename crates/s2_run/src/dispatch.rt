@@ -1,43 +1,61 @@
 //! The top call: the words choose the command.
 
-ghost use Rattle.std.specs.Prelude.{◌≡◌, ◌<◌, ℕ, List, [], Some, None, map, string_bytes, drop, length};
-ghost use Rattle.std.specs.Option.{option_copied};
-ghost use Rattle.s2_elf.specs.Images.{image_of};
-ghost use Rattle.s2_run.specs.declared.limits.TheConstants.{FILE_LIMIT};
-ghost use Rattle.s2_run.specs.Script.{first_line, first_taken, run_name, IsTicks};
-ghost use Rattle.s2_run.specs.Transcript.{Report, for_outlet, Untouched};
-ghost use Rattle.s2_run.specs.ReportText.{too_big_line};
-ghost use Rattle.s2_run.specs.Execution.{cycle_limit, Halts, Stops, halt_transcript, stop_transcript};
-ghost use Rattle.s2_run.specs.Endings.{Ends, NamesLine, TakesLine, TakesWhole, TakesNothing, WritesNothing};
-ghost use Rattle.s2_run.specs.Reasons.{NamesFile, IsAccepted, IsRefused, ComesOnly, ReadFaultCause, TooBigCause, WriteFaultCause};
+ghost use Rattle.std.specs.Prelude.{◌≡◌, Ok, Err, map, string_bytes};
+ghost use Rattle.std.specs.declared.result.Result.{Result};
+ghost use Rattle.s2_run.specs.CommandWords.{Request, words_of, IsOffered, IsUsage};
+ghost use Rattle.s2_run.specs.SeenObjects.{seen, desk_seen, source_seen, sink_seen};
+ghost use Rattle.s2_run.specs.RunCommand.{run_status};
+ghost use Rattle.s2_run.specs.CheckCommand.{check_status};
+ghost use Rattle.s2_run.specs.ServedCommands.{Answers, RefusesWords};
 
-use crate::command::run;
+use crate::check::{Verdict, check};
+use crate::limits::FILE_LIMIT;
+use crate::output::{StreamFault, put_line};
+use crate::run::{ProgramEnd, RunEnd, RunFault, run};
 use crate::status::Status;
+use crate::words::{Command, command_of};
 use s2_io::{Desk, Sink, Source};
 use std::alloc::Global;
 
-/// The name of the file where the words are `run NAME`.
-fn named(words: &[String]) -> Option<&str>
-    ensures { option_copied result ≡ run_name (map string_bytes words.now) }
+/// The status of an outcome of `run`.
+fn run_status(outcome: Result<RunEnd, RunFault>) -> Status
+    ensures { result ≡ run_status outcome }
 {
-    match words {
-        [command, name] => {
-            if command.as_str() == "run" {
-                Some(name.as_str())
-            } else {
-                None
-            }
-        }
-        _ => None,
+    match outcome {
+        Ok(RunEnd::Program(ProgramEnd::Halted)) => Status::Done,
+        Ok(RunEnd::Program(ProgramEnd::Unbuilt)) => Status::NotBuilt { line: 1 },
+        Ok(RunEnd::Refused(fault)) => Status::Elf(fault),
+        Ok(RunEnd::TooBig) => Status::TooBig { limit: FILE_LIMIT },
+        Err(RunFault::File) => Status::ReadFault,
+        Err(RunFault::Stream(StreamFault::Read)) => Status::ReadFault,
+        Err(RunFault::Stream(StreamFault::Write)) => Status::WriteFault,
+        Err(RunFault::Memory) => Status::Memory,
+    }
+}
+
+/// The status of an outcome of `check`.
+fn check_status(outcome: Result<Verdict, StreamFault>) -> Status
+    ensures { result ≡ check_status outcome }
+{
+    match outcome {
+        Ok(Verdict::Passed) => Status::Done,
+        Ok(Verdict::Bad { line, column }) => Status::BadLine { line, column },
+        Ok(Verdict::TooLong { line }) => Status::TooLong { line },
+        Err(StreamFault::Read) => Status::ReadFault,
+        Err(StreamFault::Write) => Status::WriteFault,
     }
 }
 
 /// Runs the command of the words: those of the command line after the program's name.
 ///
-/// `run NAME` reads the file NAME of the desk into memory, reads the first line of the input, which is
-/// `t 7 N`, and runs the program until it halts, for at most N ticks. The console takes the program's
-/// bytes, and the report the end lines. Other words are not built: `Status::NotBuilt` of line 0.
-/// `Status` says when each answer comes.
+/// - `run NAME` reads the file NAME of the desk into memory, reads the first line of the input, which is
+///   `t 7 N`, and runs the program until it halts, for at most N ticks. The console takes the program's
+///   bytes, and the report the end lines.
+/// - `check` reads the input, and writes to the report whether each of its lines is one of a script.
+/// - `single NAME` and `load N`, N from 1 to 1000, are not built: `Status::NotBuilt` of line 0.
+///
+/// Other words are answered `Status::Usage`, with a line of the report. `Status` says when each answer
+/// comes. The commands and their words are this project's own (`docs/FORMATS.md`).
 pub fn serve<D: Desk, S: Source, C: Sink, R: Sink>(
     alloc: Global,
     words: &[String],
@@ -46,59 +64,38 @@ pub fn serve<D: Desk, S: Source, C: Sink, R: Sink>(
     console: &mut C,
     report: &mut R,
 ) -> Status
-    // A program that halts writes what one processor writes.
-    ensures halts { (name file s : List ℕ) (n k value : ℕ)
-        → NamesFile (map string_bytes words.now) (D.held desk.old) name file → S.left input.old ≡ Some s
-        → IsAccepted file → IsTicks (first_line s) n → Halts (image_of file) (cycle_limit n) k value
-        → Ends Status.Done (halt_transcript (image_of file) k value) result
-        (C.taken console.old) (C.taken console.new) (R.taken report.old) (R.taken report.new) }
+    // What is offered is answered by its command, and by no other.
+    ensures command { (request : Request) → IsOffered request → map string_bytes words.now ≡ words_of request
+        → Answers request result
+        (seen (desk_seen (D.held desk.old) (D.faults desk.old) (D.large desk.old))
+        (source_seen (S.left input.old) (S.faults input.old))
+        (sink_seen (C.taken console.old) (C.faults console.old) (C.empty_takes console.old))
+        (sink_seen (R.taken report.old) (R.faults report.old) (R.empty_takes report.old)))
+        (seen (desk_seen (D.held desk.new) (D.faults desk.new) (D.large desk.new))
+        (source_seen (S.left input.new) (S.faults input.new))
+        (sink_seen (C.taken console.new) (C.faults console.new) (C.empty_takes console.new))
+        (sink_seen (R.taken report.new) (R.faults report.new) (R.empty_takes report.new))) }
 
-    // What is not built, and what is too big, is refused as such.
-    ensures stops { (name file s : List ℕ) (n k : ℕ)
-        → NamesFile (map string_bytes words.now) (D.held desk.old) name file → S.left input.old ≡ Some s
-        → IsAccepted file → IsTicks (first_line s) n → Stops (image_of file) (cycle_limit n) k
-        → Ends (Status.NotBuilt 1) (stop_transcript (image_of file) k) result
-        (C.taken console.old) (C.taken console.new) (R.taken report.old) (R.taken report.new) }
-    ensures other_line { (name file s : List ℕ)
-        → NamesFile (map string_bytes words.now) (D.held desk.old) name file → S.left input.old ≡ Some s
-        → IsAccepted file → ((n : ℕ) → ¬ IsTicks (first_line s) n)
-        → Ends (Status.NotBuilt 1) [] result
-        (C.taken console.old) (C.taken console.new) (R.taken report.old) (R.taken report.new) }
-    ensures other_file { (name file : List ℕ)
-        → NamesFile (map string_bytes words.now) (D.held desk.old) name file → IsRefused file
-        → Ends (Status.NotBuilt 0) [] result
-        (C.taken console.old) (C.taken console.new) (R.taken report.old) (R.taken report.new) }
-    ensures too_big { (name file : List ℕ)
-        → NamesFile (map string_bytes words.now) (D.held desk.old) name file → FILE_LIMIT < length file
-        → Ends (Status.TooBig FILE_LIMIT) (for_outlet Report too_big_line) result
-        (C.taken console.old) (C.taken console.new) (R.taken report.old) (R.taken report.new) }
-
-    // No other answer than a fault or want of memory comes elsewhere.
-    ensures only { (name file s : List ℕ)
-        → NamesFile (map string_bytes words.now) (D.held desk.old) name file → S.left input.old ≡ Some s
-        → ComesOnly file s result }
-    ensures other_words { run_name (map string_bytes words.now) ≡ None → result ≡ Status.NotBuilt 0 }
-
-    // A fault has its cause.
-    ensures named { NamesLine result }
-    ensures read { result ≡ Status.ReadFault
-        → ReadFaultCause (run_name (map string_bytes words.now)) (D.faults desk.old) (D.faults desk.new)
-        (S.left input.old) (S.left input.new) (S.faults input.old) (S.faults input.new) }
-    ensures write { WriteFaultCause result
-        (C.faults console.old) (C.faults console.new) (C.empty_takes console.old) (C.empty_takes console.new)
-        (R.faults report.old) (R.faults report.new) (R.empty_takes report.old) (R.empty_takes report.new) }
-    ensures size { TooBigCause result (D.large desk.old) (D.large desk.new) }
-
-    // What is not touched, and what is taken of the input.
-    ensures unwritten { WritesNothing result
-        → Untouched (C.taken console.old) (C.taken console.new) (R.taken report.old) (R.taken report.new) }
-    ensures untaken { TakesNothing result → S.left input.new ≡ S.left input.old }
-    ensures line { (s : List ℕ) → S.left input.old ≡ Some s → TakesLine s (S.left input.new) }
-    ensures whole { (s : List ℕ) → S.left input.old ≡ Some s → TakesWhole result
-        → S.left input.new ≡ Some (drop (first_taken s) s) }
+    // Other words are refused.
+    ensures usage { IsUsage (map string_bytes words.now)
+        → RefusesWords result
+        (seen (desk_seen (D.held desk.old) (D.faults desk.old) (D.large desk.old))
+        (source_seen (S.left input.old) (S.faults input.old))
+        (sink_seen (C.taken console.old) (C.faults console.old) (C.empty_takes console.old))
+        (sink_seen (R.taken report.old) (R.faults report.old) (R.empty_takes report.old)))
+        (seen (desk_seen (D.held desk.new) (D.faults desk.new) (D.large desk.new))
+        (source_seen (S.left input.new) (S.faults input.new))
+        (sink_seen (C.taken console.new) (C.faults console.new) (C.empty_takes console.new))
+        (sink_seen (R.taken report.new) (R.faults report.new) (R.empty_takes report.new))) }
 {
-    match named(words) {
-        Some(name) => run(alloc, name, desk, input, console, report),
-        None => Status::NotBuilt { line: 0 },
+    match command_of(words) {
+        Some(Command::Run(name)) => run_status(run(alloc, name, desk, input, console, report)),
+        Some(Command::Check) => check_status(check(input, report)),
+        Some(Command::Single(_)) => Status::NotBuilt { line: 0 },
+        Some(Command::Load(_)) => Status::NotBuilt { line: 0 },
+        None => match put_line(report, b"usage") {
+            Ok(()) => Status::Usage,
+            Err(_) => Status::WriteFault,
+        },
     }
 }

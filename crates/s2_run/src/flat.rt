@@ -1,6 +1,6 @@
 //! The flat machine: one R2000, its memories, the devices and the halt value.
 
-ghost use Rattle.std.specs.Prelude.{◌≡◌, ◌<◌, ◌⊎◌, ◌↔◌, ℕ, List, None, IfOk, IfErr, IsTrue, length};
+ghost use Rattle.std.specs.Prelude.{◌≡◌, ◌<◌, ◌⊎◌, ◌↔◌, ℕ, List, None, IfOk, IsTrue, length};
 ghost use Rattle.s2_base.specs.Map.{place_at};
 ghost use Rattle.s2_base.specs.declared.map.TheConstants.{GLOBAL_WORDS};
 ghost use Rattle.s2_device.specs.DeviceState.{quiet_device};
@@ -10,13 +10,12 @@ ghost use Rattle.s2_machine.specs.Cores.{core_cycle_by, halt_after};
 ghost use Rattle.s2_machine.specs.R2000.{r2000};
 ghost use Rattle.s2_machine.specs.OutsideAccess.{access_at, read_as};
 ghost use Rattle.s2_run.specs.BuiltCycles.{is_built_place, next_by, answer_by, next_built, cycle_answer};
-ghost use Rattle.s2_run.specs.LoadedMachine.{LoadsMachine};
 
-use s2_base::{CONOUT, HALT, Place, bytes_into, place};
+use s2_base::{CONOUT, HALT, Memory, Place, bytes_into, place};
 use s2_core::{Ask, finish, work};
 use s2_cpu::Cpu;
 use s2_device::Effect;
-use s2_elf::{ElfFail, Image, read_elf};
+use s2_elf::Image;
 use s2_ports::{Kind, Reply, Request};
 use s2_store::FlatStore;
 use std::alloc::Global;
@@ -124,10 +123,9 @@ fn halt_value(old: Option<u32>, new: Option<u32>) -> Option<u32>
 }
 
 impl FlatMachine {
-    /// The machine at the start of a program; `ElfFail::Memory` where its list was refused its memory.
-    fn start(alloc: Global, image: Image) -> Result<FlatMachine, ElfFail>
-        ensures machine { IfOk result (λ m. m ≡ started image.entry image.local image.global) }
-        ensures memory { IfErr result (λ e. e ≡ ElfFail.Memory) }
+    /// The machine at the start of a program; `Memory` where its local list was refused its memory.
+    pub fn start(alloc: Global, image: Image) -> Result<FlatMachine, Memory>
+        ensures { IfOk result (λ m. m ≡ started image.entry image.local image.global) }
     {
         let Image {
             entry,
@@ -141,17 +139,7 @@ impl FlatMachine {
                 global,
                 halt: None,
             }),
-            Err(_) => Err(ElfFail::Memory),
-        }
-    }
-
-    /// The machine at the start of the program of a file.
-    pub fn load(alloc: Global, bytes: &[u8]) -> Result<FlatMachine, ElfFail>
-        ensures { LoadsMachine bytes.now result }
-    {
-        match read_elf(alloc, bytes) {
-            Ok(image) => FlatMachine::start(alloc, image),
-            Err(fail) => Err(fail),
+            Err(Memory) => Err(Memory),
         }
     }
 

@@ -4,15 +4,27 @@ ghost use Rattle.std.specs.Prelude.{◌≡◌, ◌<◌, ◌≤◌, ◌+◌, ◌^
 ghost use Rattle.s2_io.specs.Counts.{Rose};
 ghost use Rattle.s2_io.specs.Sources.{dropped};
 ghost use Rattle.s2_io.specs.Sinks.{appended};
+ghost use Rattle.s2_text.specs.declared.lines.TheConstants.{LINE_BYTES};
+ghost use Rattle.s2_run.specs.ReportText.{line_with};
 ghost use Rattle.s2_run.specs.SentPieces.{sent, SinkCause, next_of, byte_count};
 
 use s2_io::{Failed, Sink, Source};
+use s2_text::{put_word, start};
 
 /// A piece was cut: so many of its bytes went.
 #[derive(Debug, Clone, Copy, PartialEq, Eq)]
 pub struct Cut {
     /// How many bytes went, fewer than the piece has.
     pub taken: usize,
+}
+
+/// A stream failed.
+#[derive(Debug, Clone, Copy, PartialEq, Eq)]
+pub enum StreamFault {
+    /// The input could not be read.
+    Read,
+    /// The console or the report could not be written.
+    Write,
 }
 
 /// The next byte, or none at the end of the input.
@@ -48,52 +60,68 @@ pub fn put<K: Sink>(sink: &mut K, piece: &[u8]) -> Result<(), Cut>
     Ok(())
 }
 
-/// Writes two pieces, one after the other.
-#[tactic(auto, using(crate::proofs::Pieces::pieces))]
-pub fn put_both<K: Sink>(sink: &mut K, first: &[u8], second: &[u8]) -> Result<(), Cut>
-    requires { length first.now + length second.now < 2 ^ 63 }
-    ensures bytes { K.taken sink.new
-        ≡ appended (K.taken sink.old) (sent result (first.now ++ second.now)) }
-    ensures cut { IfErr result (λ e. e.taken < length (first.now ++ second.now)) }
+/// Writes a text and its line feed, as one piece.
+pub fn put_line<K: Sink>(sink: &mut K, text: &[u8]) -> Result<(), Cut>
+    requires { length text.now < LINE_BYTES }
+    ensures bytes { K.taken sink.new ≡ appended (K.taken sink.old) (sent result (line_with text.now)) }
+    ensures cut { IfErr result (λ e. e.taken < length (line_with text.now)) }
     ensures cause { SinkCause result (K.faults sink.old) (K.faults sink.new)
         (K.empty_takes sink.old) (K.empty_takes sink.new) }
 {
-    match put(sink, first) {
+    let mut line = start(text);
+    put_word(&mut line, b"\n");
+    put(sink, line.as_slice())
+}
+
+/// Writes two texts, each with its line feed.
+#[tactic(auto, using(crate::proofs::Pieces::pieces))]
+fn put_two_lines<K: Sink>(sink: &mut K, first: &[u8], second: &[u8]) -> Result<(), Cut>
+    requires first { length first.now < LINE_BYTES }
+    requires second { length second.now < LINE_BYTES }
+    ensures bytes { K.taken sink.new
+        ≡ appended (K.taken sink.old) (sent result (line_with first.now ++ line_with second.now)) }
+    ensures cut { IfErr result (λ e. e.taken < length (line_with first.now ++ line_with second.now)) }
+    ensures cause { SinkCause result (K.faults sink.old) (K.faults sink.new)
+        (K.empty_takes sink.old) (K.empty_takes sink.new) }
+{
+    match put_line(sink, first) {
         Ok(()) => {}
         Err(cut) => return Err(cut),
     }
-    match put(sink, second) {
+    match put_line(sink, second) {
         Ok(()) => Ok(()),
         Err(cut) => Err(Cut {
-            taken: first.len() + cut.taken,
+            taken: first.len() + 1 + cut.taken,
         }),
     }
 }
 
-/// Writes four pieces, one after the other.
+/// Writes four texts, each with its line feed.
 #[tactic(auto, using(crate::proofs::Pieces::pieces))]
-pub fn put_four<K: Sink>(
+pub fn put_four_lines<K: Sink>(
     sink: &mut K,
     first: &[u8],
     second: &[u8],
     third: &[u8],
     fourth: &[u8],
 ) -> Result<(), Cut>
-    requires front { length first.now + length second.now < 2 ^ 62 }
-    requires back { length third.now + length fourth.now < 2 ^ 62 }
+    requires first { length first.now < LINE_BYTES }
+    requires second { length second.now < LINE_BYTES }
+    requires third { length third.now < LINE_BYTES }
+    requires fourth { length fourth.now < LINE_BYTES }
     ensures bytes { K.taken sink.new
-        ≡ appended (K.taken sink.old) (sent result ((first.now ++ second.now) ++ (third.now ++ fourth.now))) }
+        ≡ appended (K.taken sink.old) (sent result ((line_with first.now ++ line_with second.now) ++ (line_with third.now ++ line_with fourth.now))) }
     ensures cause { SinkCause result (K.faults sink.old) (K.faults sink.new)
         (K.empty_takes sink.old) (K.empty_takes sink.new) }
 {
-    match put_both(sink, first, second) {
+    match put_two_lines(sink, first, second) {
         Ok(()) => {}
         Err(cut) => return Err(cut),
     }
-    match put_both(sink, third, fourth) {
+    match put_two_lines(sink, third, fourth) {
         Ok(()) => Ok(()),
         Err(cut) => Err(Cut {
-            taken: first.len() + second.len() + cut.taken,
+            taken: first.len() + second.len() + 2 + cut.taken,
         }),
     }
 }

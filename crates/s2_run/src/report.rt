@@ -1,61 +1,71 @@
-//! The lines of a report.
+//! The lines of a report, each without its line feed.
 
-ghost use Rattle.std.specs.Prelude.{◌≡◌, ◌<◌, ◌≤◌, length};
-ghost use Rattle.s2_run.specs.ReportText.{count_line, hex_digit, hex_word, halt_line};
+ghost use Rattle.std.specs.Prelude.{◌≡◌, ◌<◌, ◌≤◌, ◌+◌, ◌++◌, ◌∷◌, codes, length};
+ghost use Rattle.s2_run.specs.RefusalText.{counted_text, refusal_text};
+ghost use Rattle.s2_run.specs.ReportText.{halt_text, verdict_text};
 
-use arrayvec::ArrayVec;
-use itoa::Buffer;
+use crate::check::Verdict;
+use s2_elf::ElfFault;
+use s2_text::{Text, and_dec, and_hex, put_word, start};
 
-/// A line with its line feed, of at most 30 bytes: a name of at most 8 bytes and a number of at most 20
-/// digits, or the halt value.
-pub type Line = ArrayVec<u8, 32>;
-
-/// A name, a space, a decimal number and a line feed.
-pub fn count_line(name: &[u8], n: u64) -> Line
-    requires { length name.now ≤ 8 }
-    ensures { result.items ≡ count_line name.now n }
+/// A word of at most 20 bytes, a space and a decimal number.
+pub fn counted(word: &[u8], n: u64) -> Text
+    requires { length word.now ≤ 20 }
+    ensures text { result.items ≡ counted_text word.now n }
+    ensures size { length result.items ≤ 41 }
 {
-    let mut digits = Buffer::new();
-    let mut line = Line::new();
-    line.try_extend_from_slice(name).unwrap();
-    line.push(b' ');
-    line.try_extend_from_slice(digits.format(n).as_bytes())
-        .unwrap();
-    line.push(b'\n');
+    and_dec(start(word), n)
+}
+
+/// The end of a run that halted.
+pub fn halted(value: u32) -> Text
+    ensures { result.items ≡ halt_text value }
+{
+    and_hex(start(b"end halt"), value, 8)
+}
+
+/// The text of a refusal.
+fn refusal(fault: &ElfFault) -> Text
+    ensures text { result.items ≡ refusal_text fault.now }
+    ensures size { length result.items ≤ 41 }
+{
+    match fault {
+        ElfFault::Short(size) => counted(b"short", *size),
+        ElfFault::Magic => start(b"magic"),
+        ElfFault::Class => start(b"class"),
+        ElfFault::Order => start(b"order"),
+        ElfFault::Version => start(b"version"),
+        ElfFault::Kind => start(b"kind"),
+        ElfFault::Machine => start(b"machine"),
+        ElfFault::TooMany(headers) => counted(b"toomany", *headers as u64),
+        ElfFault::HeaderSize => start(b"headersize"),
+        ElfFault::TableOutside => start(b"tableoutside"),
+        ElfFault::Dynamic(header) => counted(b"dynamic", *header as u64),
+        ElfFault::Bounds(header) => counted(b"bounds", *header as u64),
+        ElfFault::FileOutside(header) => counted(b"fileoutside", *header as u64),
+        ElfFault::Placed(header) => counted(b"placed", *header as u64),
+        ElfFault::Entry => start(b"entry"),
+    }
+}
+
+/// The line of a file that is refused.
+pub fn refused(fault: &ElfFault) -> Text
+    ensures text { result.items ≡ codes "elf" ++ 32 ∷ refusal_text fault.now }
+    ensures size { length result.items ≤ 45 }
+{
+    let mut line = start(b"elf ");
+    put_word(&mut line, refusal(fault).as_slice());
     line
 }
 
-/// A digit of base 16.
-fn digit(d: u32) -> u8
-    requires { d < 16 }
-    ensures { result ≡ hex_digit d }
+/// The line of a verdict.
+pub fn verdict(verdict: &Verdict) -> Text
+    ensures text { result.items ≡ verdict_text verdict.now }
+    ensures size { length result.items ≤ 62 }
 {
-    if d < 10 { 48 + d as u8 } else { 87 + d as u8 }
-}
-
-/// A word as eight digits of base 16.
-fn word(v: u32) -> [u8; 8]
-    ensures { result ≡ hex_word v }
-{
-    [
-        digit(v / 0x1000_0000),
-        digit(v / 0x0100_0000 % 16),
-        digit(v / 0x0010_0000 % 16),
-        digit(v / 0x0001_0000 % 16),
-        digit(v / 0x0000_1000 % 16),
-        digit(v / 0x0000_0100 % 16),
-        digit(v / 0x0000_0010 % 16),
-        digit(v % 16),
-    ]
-}
-
-/// The end line of a run that halted.
-pub fn halt_line(value: u32) -> Line
-    ensures { result.items ≡ halt_line value }
-{
-    let mut line = Line::new();
-    line.try_extend_from_slice(b"end halt ").unwrap();
-    line.try_extend_from_slice(&word(value)).unwrap();
-    line.push(b'\n');
-    line
+    match verdict {
+        Verdict::Passed => start(b"ok"),
+        Verdict::Bad { line, column } => and_dec(counted(b"bad", *line), *column as u64),
+        Verdict::TooLong { line } => counted(b"toolong", *line),
+    }
 }

@@ -3,17 +3,17 @@
 ghost use Rattle.std.specs.Prelude.{◌≡◌, ◌<◌, ◌≤◌, ◌^◌, ◌↔◌, ℕ, List, IfOk, IfSome, OnOk, OnErr, IfNone, IsTrue, Some, decimal, drop};
 ghost use Rattle.s2_io.specs.Counts.{Rose};
 ghost use Rattle.s2_run.specs.Script.{first_line, first_taken, IsTicks};
-ghost use Rattle.s2_run.specs.Endings.{TakesLine};
+ghost use Rattle.s2_run.specs.RunCommand.{TakesLine};
 
 use crate::limits::TICK_LIMIT;
 use crate::output::next_byte;
 use arrayvec::ArrayVec;
-use itoa::Buffer;
 use s2_io::{Failed, Source};
+use s2_script::{Entry, read_entry};
 
 /// The bytes of an input before its first line feed, its end or its byte number 129, read one at a
 /// time.
-pub fn read_line<S: Source>(input: &mut S) -> Result<ArrayVec<u8, 128>, Failed>
+pub fn read_first_line<S: Source>(input: &mut S) -> Result<ArrayVec<u8, 128>, Failed>
     ensures line { (s : List ℕ) → S.left input.old ≡ Some s
         → IfOk result (λ l. l.items ≡ first_line s) }
     ensures taken { (s : List ℕ) → S.left input.old ≡ Some s
@@ -42,34 +42,23 @@ pub fn read_line<S: Source>(input: &mut S) -> Result<ArrayVec<u8, 128>, Failed>
     }
 }
 
-/// The number of a text of decimal digits. It may take other texts for numbers too.
-fn read_number(digits: &[u8]) -> Option<u64>
-    ensures { (n : ℕ) → n < 2 ^ 64 → digits.now ≡ decimal n → result ≡ Some n }
-{
-    match str::from_utf8(digits) {
-        Ok(text) => text.parse::<u64>().ok(),
-        Err(_) => None,
-    }
-}
-
-/// Whether a number has these digits: no sign, no space and no leading zero.
-fn has_digits(n: u64, digits: &[u8]) -> bool
-    ensures { IsTrue result ↔ (digits.now ≡ decimal n) }
-{
-    let mut buffer = Buffer::new();
-    buffer.format(n).as_bytes() == digits
-}
-
-/// The ticks of the line `t 7 N`, or none where the line is another.
+/// The ticks of the line `t 7 N`, or none where the line is another. N is at most the limit of a run.
 pub fn read_ticks(line: &[u8]) -> Option<u64>
     ensures ticks { IfSome result (IsTicks line.now) }
     ensures none { IfNone result ((n : ℕ) → ¬ IsTicks line.now n) }
 {
-    let digits = line.strip_prefix(b"t 7 ")?;
-    let n = read_number(digits)?;
-    if has_digits(n, digits) && n >= 1 && n <= TICK_LIMIT {
-        Some(n)
-    } else {
-        None
+    match read_entry(line) {
+        Ok(Some(Entry::Ticks { mask, n })) => {
+            if mask != 7 {
+                return None;
+            }
+            if n > TICK_LIMIT {
+                return None;
+            }
+            Some(n)
+        }
+        Ok(Some(Entry::One(_))) => None,
+        Ok(None) => None,
+        Err(_) => None,
     }
 }

@@ -1,6 +1,7 @@
 //! The worked runs, over objects in memory.
 
 use crate::{Status, serve};
+use s2_elf::ElfFault;
 use s2_io::{MemDesk, MemSink, MemSource, QuietDesk, QuietSink, QuietSource};
 use std::process::Abort;
 use std::test::Fail;
@@ -281,24 +282,122 @@ fn what_is_not_built_is_refused(rt: HostRuntime) -> Result<(), Fail> {
     };
     expect(&rt, &no_halt)?;
     for words in [
-        [].as_slice(),
-        &["run"],
-        &["walk", "hello"],
-        &["run", "hello", "hello"],
+        ["single", "hello"].as_slice(),
+        &["load", "1"],
+        &["load", "1000"],
     ] {
         let row = Row {
             words,
             status: Status::NotBuilt { line: 0 },
-            ..Row::hello("words that are not built", b"t 7 2000\n")
+            ..Row::hello("a command that is not built", b"t 7 2000\n")
         };
         expect(&rt, &row)?;
     }
-    let cut = Row {
-        file: &HELLO[..115],
-        status: Status::NotBuilt { line: 0 },
-        ..Row::hello("a file that is cut", b"t 7 2000\n")
+    Ok(())
+}
+
+#[test]
+fn words_that_ask_for_nothing_are_answered_with_the_usage(rt: HostRuntime) -> Result<(), Fail> {
+    for words in [
+        [].as_slice(),
+        &["run"],
+        &["walk"],
+        &["walk", "hello"],
+        &["run", "hello", "hello"],
+        &["check", "hello"],
+        &["load", "0"],
+        &["load", "01"],
+        &["load", "1001"],
+        &["load", ""],
+        &["load"],
+    ] {
+        let row = Row {
+            words,
+            status: Status::Usage,
+            report: b"usage\n",
+            ..Row::hello("words that ask for nothing", b"t 7 2000\n")
+        };
+        expect(&rt, &row)?;
+    }
+    Ok(())
+}
+
+#[test]
+fn a_name_may_be_empty(rt: HostRuntime) -> Result<(), Fail> {
+    let row = Row {
+        words: &["run", ""],
+        status: Status::ReadFault,
+        ..Row::hello("an empty name, which the desk does not hold", b"t 7 2000\n")
     };
-    expect(&rt, &cut)
+    expect(&rt, &row)
+}
+
+#[test]
+fn a_file_that_is_cut_is_refused_with_its_text(rt: HostRuntime) -> Result<(), Fail> {
+    for (size, fault, report) in [
+        (0usize, ElfFault::Short(0), b"elf short 0\n".as_slice()),
+        (51, ElfFault::Short(51), b"elf short 51\n"),
+        (83, ElfFault::TableOutside, b"elf tableoutside\n"),
+        (115, ElfFault::FileOutside(0), b"elf fileoutside 0\n"),
+    ] {
+        let row = Row {
+            file: &HELLO[..size],
+            status: Status::Elf(fault),
+            report,
+            ..Row::hello("a file that is cut", b"t 7 2000\n")
+        };
+        expect(&rt, &row)?;
+    }
+    Ok(())
+}
+
+/// `check` of the given script, with nothing that fails.
+fn checked<'a>(script: &'a [u8], status: Status, report: &'a [u8]) -> Row<'a> {
+    Row {
+        words: &["check"],
+        status,
+        report,
+        ..Row::hello("a check", script)
+    }
+}
+
+#[test]
+fn a_script_is_checked_to_its_first_bad_line(rt: HostRuntime) -> Result<(), Fail> {
+    for script in [
+        b"".as_slice(),
+        b"\n",
+        b"t 7 5",
+        b"t 7 5\n",
+        b"\n\n# a comment\ntick\nkey 41\n",
+    ] {
+        expect(&rt, &checked(script, Status::Done, b"ok\n"))?;
+    }
+    for (script, line, column, report) in [
+        (b"t 7 0".as_slice(), 1u64, 5u32, b"bad 1 5\n".as_slice()),
+        (b"t 7 0\n", 1, 5, b"bad 1 5\n"),
+        (b"\ntick\nt 7 5\r\nwrong\n", 3, 6, b"bad 3 6\n"),
+        (b"tick\n\nrevive", 3, 7, b"bad 3 7\n"),
+    ] {
+        expect(
+            &rt,
+            &checked(script, Status::BadLine { line, column }, report),
+        )?;
+    }
+    Ok(())
+}
+
+#[test]
+fn a_comment_has_at_most_128_bytes(rt: HostRuntime) -> Result<(), Fail> {
+    let script = vec![in rt.alloc(); b'#'; 129]?;
+    let bad = Status::BadLine {
+        line: 1,
+        column: 129,
+    };
+    expect(
+        &rt,
+        &checked(&script.as_slice()[..128], Status::Done, b"ok\n"),
+    )?;
+    expect(&rt, &checked(script.as_slice(), bad, b"bad 1 129\n"))
 }
 
 #[test]
@@ -316,5 +415,6 @@ fn a_file_above_the_limit_is_too_big(rt: HostRuntime) -> Result<(), Fail> {
 #[test]
 fn a_status_has_its_number(rt: HostRuntime) {
     assert_eq!(rt; Status::Done.number(), 0);
+    assert_eq!(rt; Status::Usage.number(), 2);
     assert_eq!(rt; Status::NotBuilt { line: 0 }.number(), 11);
 }

@@ -1,4 +1,4 @@
-use Rattle.std.proofs.Common.{◌≡◌, ℕ, List, refl, ap, sym, subst, ◌∙◌}
+use Rattle.std.proofs.Common.{◌≡◌, ℕ, List, subst, ◌∙◌}
 use Rattle.std.specs.Prelude.{None}
 use Rattle.s2_base.specs.declared.places.Place.TheVariants.{Global}
 use Rattle.s2_device.specs.DeviceState.{quiet_device}

@@ -1,0 +1,123 @@
+-- The check of a script, as far as its lines are read.
+use Rattle.std.proofs.Common.{◌≡◌, ℕ, zero, suc, ◌+◌, ◌-◌, ◌≤◌, List, [], ◌∷◌, ◌++◌, drop, length, append_assoc, append-nil, length-append, refl, sym, ap, arith, ◌∙◌, subst, inl, inr}
+use Rattle.std.specs.Prelude.{All, Some, None, Ok, Err}
+use Rattle.std.specs.declared.option.Option.{Option}
+use Rattle.std.proofs.lemmas.List.{drop-drop}
+use Rattle.std.proofs.lemmas.List.Elements.{All-append, All-nil}
+use Rattle.s2_text.specs.LineTables.{ReadsLine}
+use Rattle.s2_text.specs.declared.stops.BadLine.{BadLine}
+use Rattle.s2_text.proofs.ShortLines.{uncut_line}
+use Rattle.s2_text.proofs.DisjointForms.{says_text}
+use Rattle.s2_script.specs.ScriptLines.{script_rows}
+use Rattle.s2_script.specs.declared.entry.Entry.{Entry}
+use Rattle.s2_script.proofs.ScriptTests.{script_short}
+use Rattle.s2_run.specs.declared.limits.TheConstants.{INPUT_LIMIT}
+use Rattle.s2_run.specs.InputLines.{InputLine, lines_of, size_of}
+use Rattle.s2_run.specs.NextLine.{HasLine, HasLongLine, HasFront}
+use Rattle.s2_run.specs.ScriptCheck.{IsScriptLine, Pass, Judges}
+use Rattle.s2_run.specs.CheckCommand.{TakesFront}
+use Rattle.s2_run.specs.declared.check.Verdict.TheVariants.{Passed, Bad, TooLong}
+
+size_append : (a b : List InputLine) → size_of (a ++ b) ≡ size_of a + size_of b
+size_append [] b = omega arith
+size_append (l ∷ a) b = let h = size_append a b in omega arith
+
+-- lines of a script that were read
+pub record Checking (input : List ℕ) (taken lines : ℕ) (left : Option (List ℕ)) : Type 0 where
+  pub before : List InputLine
+  pub rest : List ℕ
+  pub lines_are : lines_of input ≡ before ++ lines_of rest
+  pub lines_count : lines ≡ length before
+  pub taken_is : taken ≡ size_of before
+  pub grammar : All (λ (line : InputLine). IsScriptLine line.text) before
+  pub rest_is : rest ≡ drop taken input
+  pub left_is : left ≡ Some rest
+
+pub check_none : (input : List ℕ) (left : Option (List ℕ)) → left ≡ Some input → Checking input 0 0 left
+check_none input left h = record {
+  before = [];
+  rest = input;
+  lines_are = refl;
+  lines_count = refl;
+  taken_is = refl;
+  grammar = All-nil (λ (line : InputLine). IsScriptLine line.text);
+  rest_is = refl;
+  left_is = h;
+}
+
+all_one : (P : InputLine → Type 0) (x : InputLine) → P x → All P (x ∷ [])
+all_one P x p zero d h = p
+all_one P x p (suc k) d h = absurd (omega arith)
+
+-- what was read of the bytes that are held of a line is what is read of the line
+said_line : (text : List ℕ) (entry : Option Entry) → ReadsLine script_rows text (Ok entry) → IsScriptLine text
+said_line text (Some x) h = inr (says_text script_rows x text h)
+said_line text None h = inl h
+
+-- a line of a script more
+pub check_line : {input held : List ℕ} {taken lines size : ℕ} {left left' : Option (List ℕ)} (entry : Option Entry) → (r : Checking input taken lines left) → HasLine r.rest size held left' → ReadsLine script_rows held (Ok entry) → Checking input (taken + size) (lines + 1) left'
+check_line {input} {held} {taken} {lines} {size} {left} {left'} entry r l h =
+    let line : InputLine = record { text = l.text; size = size } in
+    let whole : ReadsLine script_rows l.text (Ok entry) = uncut_line script_rows l.text held (Ok entry) script_short l.held_is h in
+    let P : InputLine → Type 0 = λ (x : InputLine). IsScriptLine x.text in
+    record {
+      before = r.before ++ line ∷ [];
+      rest = l.rest;
+      lines_are = r.lines_are ∙ (ap (λ (ls : List InputLine). r.before ++ ls) l.lines_are ∙ sym (append_assoc r.before (line ∷ []) (lines_of l.rest)));
+      lines_count = omega (arith, r.lines_count, length-append r.before (line ∷ []));
+      taken_is = omega (arith, r.taken_is, size_append r.before (line ∷ []));
+      grammar = All-append P r.before (line ∷ []) r.grammar (all_one P line (said_line l.text entry whole));
+      rest_is = l.rest_is ∙ (ap (drop size) r.rest_is ∙ drop-drop size taken input);
+      left_is = l.left_is;
+    }
+
+passes : {input : List ℕ} {taken lines : ℕ} {left : Option (List ℕ)} → (r : Checking input taken lines left) → taken ≤ INPUT_LIMIT → Pass r.before
+passes r most = record { grammar = r.grammar; short = omega (arith, r.taken_is) }
+
+-- a line that is none of a script
+pub check_bad : {input held : List ℕ} {taken lines size : ℕ} {left left' : Option (List ℕ)} (bad : BadLine) → (r : Checking input taken lines left) → HasLine r.rest size held left' → ReadsLine script_rows held (Err bad) → taken + size ≤ INPUT_LIMIT → Judges input (Bad (lines + 1) bad.column) left'
+check_bad {input} {held} {taken} {lines} {size} {left} {left'} bad r l h most =
+    let line : InputLine = record { text = l.text; size = size } in
+    let bytes : taken + size ≡ size_of r.before + size = ap (λ (n : ℕ). n + size) r.taken_is in (
+      record {
+        before = r.before;
+        line = line;
+        after = lines_of l.rest;
+        lines_are = r.lines_are ∙ ap (λ (ls : List InputLine). r.before ++ ls) l.lines_are;
+        number_is = ap (λ (n : ℕ). n + 1) r.lines_count;
+        passed = passes r (omega arith);
+      },
+      omega arith,
+      uncut_line script_rows l.text held (Err bad) script_short l.held_is h,
+      l.left_is ∙ ap Some (l.rest_is ∙ (ap (drop size) r.rest_is ∙ (drop-drop size taken input ∙ ap (λ (n : ℕ). drop n input) bytes))),
+    )
+
+-- a line with a byte too many
+pub check_long : {input : List ℕ} {taken lines : ℕ} {left left' : Option (List ℕ)} → (r : Checking input taken lines left) → HasLongLine r.rest (INPUT_LIMIT - taken) left' → taken ≤ INPUT_LIMIT → Judges input (TooLong (lines + 1)) left'
+check_long {input} {taken} {lines} {left} {left'} r l most =
+    let count : taken + (INPUT_LIMIT - taken + 1) ≡ INPUT_LIMIT + 1 = omega arith in (
+      record {
+        before = r.before;
+        line = l.line;
+        after = l.more;
+        lines_are = r.lines_are ∙ ap (λ (ls : List InputLine). r.before ++ ls) l.lines_are;
+        number_is = ap (λ (n : ℕ). n + 1) r.lines_count;
+        passed = passes r most;
+      },
+      omega (arith, l.long, r.taken_is),
+      l.left_is ∙ ap Some (ap (drop (INPUT_LIMIT - taken + 1)) r.rest_is ∙ (drop-drop (INPUT_LIMIT - taken + 1) taken input ∙ ap (λ (n : ℕ). drop n input) count)),
+    )
+
+-- the end of the input
+pub check_end : {input : List ℕ} {taken lines : ℕ} {left left' : Option (List ℕ)} → (r : Checking input taken lines left) → (r.rest ≡ []) × (left' ≡ Some []) → taken ≤ INPUT_LIMIT → Judges input Passed left'
+check_end {input} r e most =
+    let all : r.before ≡ lines_of input = sym (append-nil r.before) ∙ (ap (λ (x : List ℕ). r.before ++ lines_of x) (sym e.0) ∙ sym r.lines_are) in
+    (subst Pass all (passes r most), e.1)
+
+-- a read that fails
+pub check_failed : {input : List ℕ} {taken lines : ℕ} {left left' : Option (List ℕ)} → (r : Checking input taken lines left) → HasFront r.rest (INPUT_LIMIT - taken) left' → taken ≤ INPUT_LIMIT → TakesFront input left'
+check_failed {input} {taken} r f most = record {
+  bytes = taken + f.bytes;
+  within = omega (arith, f.within);
+  left_is = f.left_is ∙ ap Some (ap (drop f.bytes) r.rest_is ∙ drop-drop f.bytes taken input);
+}

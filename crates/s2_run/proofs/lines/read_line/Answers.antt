@@ -1,0 +1,40 @@
+use Rattle.std.proofs.Common.{refl, arith}
+use Rattle.s2_run.proofs.LineList.{read_byte, read_feed, read_end, end_none, end_some, read_long, read_failed}
+use Rattle.s2_run.proofs.lines.read_line.Goals as goal
+
+pub returns-in-Err-clause-told : goal.returns-in-Err-clause-told
+returns-in-Err-clause-told g c = λ s h. read_failed (c.loop-size.invariant.told s h) c.loop-size.invariant.below c.in-Err.ensures.rest
+
+pub returns-then-size-eq0-clause-told : goal.returns-then-size-eq0-clause-told
+returns-then-size-eq0-clause-told g c = λ s h.
+    let r = c.loop-size.invariant.told s h in
+    let i = c.in-Ok-None in
+    end_none (read_end _ r i.field-0-is (i.ensures.byte r.rest r.left_is) i.ensures.rest) c.if-size-eq0.true
+
+pub returns-in-Ok-None-clause-told : goal.returns-in-Ok-None-clause-told
+returns-in-Ok-None-clause-told g c = λ s h.
+    let r = c.loop-size.invariant.told s h in
+    let i = c.in-Ok-None in
+    end_some (read_end _ r i.field-0-is (i.ensures.byte r.rest r.left_is) i.ensures.rest) (omega arith)
+
+pub returns-then-size-room-clause-told : goal.returns-then-size-room-clause-told
+returns-then-size-room-clause-told g c = λ s h.
+    let r = c.loop-size.invariant.told s h in
+    let i = c.in-Ok-Some in
+    read_long _ _ r i.field-0-is (i.ensures.byte r.rest r.left_is) i.ensures.rest (omega arith)
+
+pub returns-in-Ended-clause-told : goal.returns-in-Ended-clause-told
+returns-in-Ended-clause-told g c = λ s h.
+    let r = c.loop-size.invariant.told s h in
+    let i = c.in-Ok-Some in
+    read_feed _ _ r i.field-0-is (i.ensures.byte r.rest r.left_is) i.ensures.rest (c.in-Ended.ensures.ended.0 refl) c.in-Ended.ensures.line
+
+pub loop-size-preserved : goal.loop-size-preserved
+loop-size-preserved g c = record {
+  told = λ s h.
+      let r = c.loop-size.invariant.told s h in
+      let i = c.in-Ok-Some in
+      read_byte _ _ r i.field-0-is (i.ensures.byte r.rest r.left_is) i.ensures.rest (λ e. (let f = c.in-Held.ensures.ended.1 e in cc)) c.in-Held.ensures.line;
+  below = omega arith;
+  faults = omega (arith, c.in-Ok-Some.ensures.faults_stay);
+}

@@ -1,0 +1,75 @@
+//! The command `check`: whether each line of an input is one of a script.
+
+ghost use Rattle.std.specs.Prelude.{◌≡◌, ◌≤◌, ℕ, List, Some, IfOk, OnErr};
+ghost use Rattle.s2_io.specs.Counts.{Rose};
+ghost use Rattle.s2_run.specs.SeenObjects.{sink_seen};
+ghost use Rattle.s2_run.specs.ScriptCheck.{Judges};
+ghost use Rattle.s2_run.specs.CheckCommand.{TakesFront, CheckEnds, CheckCause};
+
+use crate::limits::INPUT_LIMIT;
+use crate::lines::{LineRead, read_line};
+use crate::output::{StreamFault, put_line};
+use crate::report::verdict;
+use s2_io::{Failed, Sink, Source};
+use s2_script::read_entry;
+use s2_text::Lines;
+
+/// What a check of a script comes to. Lines are numbered from 1, and so are columns.
+#[derive(Debug, Clone, Copy, PartialEq, Eq)]
+pub enum Verdict {
+    /// Each line is one of a script.
+    Passed,
+    /// The line is the first that is not, from this column on.
+    Bad { line: u64, column: u32 },
+    /// The input has too many bytes: the first of them that is too many stands in the line.
+    TooLong { line: u64 },
+}
+
+/// The verdict on the lines of an input.
+fn check_lines<S: Source>(input: &mut S) -> Result<Verdict, Failed>
+    ensures told { (s : List ℕ) → S.left input.old ≡ Some s
+        → IfOk result (λ verdict. Judges s verdict (S.left input.new)) }
+    ensures front { (s : List ℕ) → S.left input.old ≡ Some s → OnErr result (TakesFront s (S.left input.new)) }
+    ensures failed { OnErr result (Rose (S.faults input.old) (S.faults input.new)) }
+{
+    let mut held = Lines::new();
+    let mut taken = 0u64;
+    let mut lines = 0u64;
+    loop {
+        let size = match read_line(input, INPUT_LIMIT - taken, &mut held) {
+            Err(Failed) => return Err(Failed),
+            Ok(LineRead::End) => return Ok(Verdict::Passed),
+            Ok(LineRead::TooLong) => return Ok(Verdict::TooLong { line: lines + 1 }),
+            Ok(LineRead::Line { size }) => size,
+        };
+        taken += size;
+        lines += 1;
+        match read_entry(held.line()) {
+            Ok(_) => {}
+            Err(bad) => {
+                return Ok(Verdict::Bad {
+                    line: lines,
+                    column: bad.column,
+                });
+            }
+        }
+    }
+}
+
+/// Checks a script, and writes the line of the verdict.
+pub fn check<S: Source, R: Sink>(input: &mut S, report: &mut R) -> Result<Verdict, StreamFault>
+    ensures told { (s : List ℕ) → S.left input.old ≡ Some s
+        → CheckEnds s result (S.left input.new) (R.taken report.old) (R.taken report.new) }
+    ensures cause { CheckCause result (S.faults input.old) (S.faults input.new)
+        (sink_seen (R.taken report.old) (R.faults report.old) (R.empty_takes report.old))
+        (sink_seen (R.taken report.new) (R.faults report.new) (R.empty_takes report.new)) }
+{
+    let found = match check_lines(input) {
+        Ok(found) => found,
+        Err(Failed) => return Err(StreamFault::Read),
+    };
+    match put_line(report, verdict(&found).as_slice()) {
+        Ok(()) => Ok(found),
+        Err(_) => Err(StreamFault::Write),
+    }
+}
