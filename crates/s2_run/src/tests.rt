@@ -249,14 +249,12 @@ fn a_report_line_is_one_write(rt: HostRuntime) -> Result<(), Fail> {
 }
 
 #[test]
-fn a_file_of_exactly_the_limit_is_loaded(rt: HostRuntime) -> Result<(), Fail> {
-    let mut file = vec![in rt.alloc(); 0u8; 4_194_304]?;
-    file[..116].copy_from_slice(&HELLO);
+fn a_file_of_exactly_the_limit_is_judged(rt: HostRuntime) -> Result<(), Fail> {
+    let file = vec![in rt.alloc(); 0u8; 4_194_304]?;
     let row = Row {
         file: file.as_slice(),
-        status: Status::Done,
-        console: b"hi\n",
-        report: HELLO_REPORT,
+        status: Status::Elf(ElfFault::Magic),
+        report: b"elf magic\n",
         ..Row::hello("a file of exactly the limit", b"t 7 2000\n")
     };
     expect(&rt, &row)
