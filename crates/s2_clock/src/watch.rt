@@ -1,7 +1,7 @@
 //! The watch over three clocks.
 
-ghost use Rattle.s2_clock.specs.ClockWatch.{is_firing, is_tainted, slow_at as slow_at_p, slow_of, fair_windows, tick_answer, watch_after};
-ghost use Rattle.std.specs.Prelude.{◌≡◌, ◌<◌};
+ghost use Rattle.s2_clock.specs.ClockWatch.{is_firing, is_tainted, slow_at as slow_at_p, slow_of, fair_windows, tick_answer, watch_after, windows_after};
+ghost use Rattle.std.specs.Prelude.{◌≡◌, ◌<◌, None};
 
 use crate::numbers::MISSES_ALLOWED;
 use crate::window::TickWindow;
@@ -71,14 +71,27 @@ impl Watch {
         }
     }
 
-    /// The least processor that is too slow for a tick.
-    fn slow(&self, mask: u8, tainted: Option<u8>) -> Option<Slow>
+    /// The least processor that is too slow for a tick at which the processors fire whose bits are set in the
+    /// mask: bit p for processor p. `None` exactly where the tick would not be refused. Nothing is recorded.
+    pub fn slow(&self, mask: u8, tainted: Option<u8>) -> Option<Slow>
         ensures { result ≡ slow_of mask tainted self.now }
     {
         let first = self.slow_at(mask, tainted, 0);
         let second = self.slow_at(mask, tainted, 1);
         let third = self.slow_at(mask, tainted, 2);
         first.or(second).or(third)
+    }
+
+    /// Records one tick for which no processor is too slow. For the tainted processor, which may have any clock,
+    /// it is recorded as fired.
+    pub fn record(&mut self, mask: u8, tainted: Option<u8>)
+        requires mask { mask < 8 }
+        requires fair { slow_of mask tainted self.old ≡ None }
+        ensures { self.new ≡ windows_after mask tainted self.old }
+    {
+        self.windows[0].record(fires(mask, 0), taints(tainted, 0));
+        self.windows[1].record(fires(mask, 1), taints(tainted, 1));
+        self.windows[2].record(fires(mask, 2), taints(tainted, 2));
     }
 
     /// Records one tick, at which the processors fire whose bits are set in the mask: bit p for
@@ -97,9 +110,7 @@ impl Watch {
         if let Some(slow) = self.slow(mask, tainted) {
             return Err(slow);
         }
-        self.windows[0].record(fires(mask, 0), taints(tainted, 0));
-        self.windows[1].record(fires(mask, 1), taints(tainted, 1));
-        self.windows[2].record(fires(mask, 2), taints(tainted, 2));
+        self.record(mask, tainted);
         Ok(())
     }
 }

@@ -11,7 +11,7 @@ pub record IsImageOf (bytes : List ℕ) (image : MemoryImage) : Type 0 where
   pub accepted : accepts bytes ≡ true
   pub same : image ≡ image_of bytes
 
--- a refusal names the first condition that is false; want of memory is free
+-- a refusal names the first condition that is false; memory can be wanting for a file that is accepted alone
 abbrev pub IsRefusalOf : List ℕ → ElfFail → Type 0
 IsRefusalOf bytes (Fault fault) = refusal bytes ≡ Some fault
-IsRefusalOf bytes Memory = Unit {0}
+IsRefusalOf bytes Memory = accepts bytes ≡ true

@@ -18,7 +18,7 @@ use std::alloc::Global;
 /// over them in order, so that a later one counts where two overlap.
 ///
 /// `ElfFail::Fault` comes exactly where a condition of a file is false, with the first such. `ElfFail::Memory`
-/// comes for want of memory alone. Source: the ELF-32 specification for the fields; the conditions and their
+/// comes for want of memory alone, and only for a file that is accepted. Source: the ELF-32 specification for the fields; the conditions and their
 /// order are this project's own (`docs/FORMATS.md`).
 pub fn read_elf(alloc: Global, bytes: &[u8]) -> Result<Image, ElfFail>
     ensures accepted { IfOk result (λ image. IsImageOf bytes.now image) }

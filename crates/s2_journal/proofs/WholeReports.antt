@@ -9,12 +9,12 @@ use Rattle.s2_journal.specs.ReportOrder.{place_of, closing_of, closing_count, de
 use Rattle.s2_journal.proofs.OrderStates.{closing_more, greatest_more}
 
 -- what a line that is in order has
-record InOrder (before : List ReportLine) (x : ReportLine) : Type 0 where
-  place : closing_count before ≡ place_of x
-  onward : falls_back (greatest_run before) x ≡ false
-  enough : is_too_few (greatest_run before) x ≡ false
+pub record InOrder (before : List ReportLine) (x : ReportLine) : Type 0 where
+  pub place : closing_count before ≡ place_of x
+  pub onward : falls_back (greatest_run before) x ≡ false
+  pub enough : is_too_few (greatest_run before) x ≡ false
 
-in_order : (before : List ReportLine) (line : List ℕ) (x : ReportLine) → order_fault (order_state before) line x ≡ None → InOrder before x
+pub in_order : (before : List ReportLine) (line : List ℕ) (x : ReportLine) → order_fault (order_state before) line x ≡ None → InOrder before x
 in_order before line x e =
     elim (cases (closing_count before == place_of x)) [
       | inr other ↦ absurd (let f = rw other at e in cc)

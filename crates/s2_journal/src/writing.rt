@@ -1,8 +1,9 @@
 //! The writers of a report's lines. Each writes one line, without its line feed.
 
-ghost use Rattle.std.specs.Prelude.{◌≡◌, ◌≤◌, ◌++◌, ◌∷◌, [], codes, length};
+ghost use Rattle.std.specs.Prelude.{◌≡◌, ◌<◌, ◌≤◌, ◌++◌, ◌∷◌, [], codes, length};
 ghost use Rattle.std.specs.Fmt.{decimal};
 ghost use Rattle.s2_text.specs.HexText.{hex_text};
+ghost use Rattle.s2_text.specs.declared.lines.TheConstants.{LINE_BYTES};
 ghost use Rattle.s2_text.specs.LineTables.{SaysIn};
 ghost use Rattle.s2_ports.specs.declared.events.Event.{Event};
 ghost use Rattle.s2_journal.specs.declared.note.Note.{Note};
@@ -21,13 +22,15 @@ use s2_text::{Text, WORD_DIGITS, and_dec, and_hex, and_word, start};
 pub fn put_note(n: &Note) -> Text
     ensures text { result.items ≡ note_text n.now }
     ensures said { IsReadableNote n.now → SaysIn report_rows (note_answer n.now) result.items }
+    ensures short { length result.items < LINE_BYTES }
 {
     note_line(*n)
 }
 
 /// Writes the line of a note.
 fn note_line(n: Note) -> Text
-    ensures { result.items ≡ note_text n }
+    ensures text { result.items ≡ note_text n }
+    ensures short { length result.items < LINE_BYTES }
 {
     match n {
         Note::Delivered { run, event } => put_delivered(run, event),
@@ -43,7 +46,8 @@ fn note_line(n: Note) -> Text
 /// Writes `d RUN` and the event.
 #[tactic(auto, using(crate::proofs::Joined::texts))]
 fn put_delivered(run: u64, event: Event) -> Text
-    ensures { result.items ≡ note_text (Note.Delivered run event) }
+    ensures text { result.items ≡ note_text (Note.Delivered run event) }
+    ensures short { length result.items < LINE_BYTES }
 {
     let line = and_dec(start(b"d"), run);
     match event {
@@ -55,7 +59,8 @@ fn put_delivered(run: u64, event: Event) -> Text
 /// Writes `lost TICK` and the event.
 #[tactic(auto, using(crate::proofs::Joined::texts))]
 fn put_lost(tick: u64, event: Event) -> Text
-    ensures { result.items ≡ note_text (Note.Lost tick event) }
+    ensures text { result.items ≡ note_text (Note.Lost tick event) }
+    ensures short { length result.items < LINE_BYTES }
 {
     let line = and_dec(start(b"lost"), tick);
     match event {
@@ -79,7 +84,8 @@ fn word_of(why: Why) -> &'static [u8]
 /// Writes `out TICK P` and why.
 #[tactic(auto, using(crate::proofs::Joined::texts))]
 fn put_out(tick: u64, p: u8, why: Why) -> Text
-    ensures { result.items ≡ note_text (Note.Out tick p why) }
+    ensures text { result.items ≡ note_text (Note.Out tick p why) }
+    ensures short { length result.items < LINE_BYTES }
 {
     and_word(
         and_dec(and_dec(start(b"out"), tick), p as u64),
@@ -90,7 +96,8 @@ fn put_out(tick: u64, p: u8, why: Why) -> Text
 /// Writes `repair TICK B INDEX`.
 #[tactic(auto, using(crate::proofs::Joined::texts))]
 fn put_repair(tick: u64, board: u8, index: u32) -> Text
-    ensures { result.items ≡ note_text (Note.Repaired tick board index) }
+    ensures text { result.items ≡ note_text (Note.Repaired tick board index) }
+    ensures short { length result.items < LINE_BYTES }
 {
     let line = and_dec(and_dec(start(b"repair"), tick), board as u64);
     and_dec(line, index as u64)
@@ -99,7 +106,8 @@ fn put_repair(tick: u64, board: u8, index: u32) -> Text
 /// Writes `board TICK B`.
 #[tactic(auto, using(crate::proofs::Joined::texts))]
 fn put_board(tick: u64, board: u8) -> Text
-    ensures { result.items ≡ note_text (Note.BoardDead tick board) }
+    ensures text { result.items ≡ note_text (Note.BoardDead tick board) }
+    ensures short { length result.items < LINE_BYTES }
 {
     and_dec(and_dec(start(b"board"), tick), board as u64)
 }
@@ -107,7 +115,8 @@ fn put_board(tick: u64, board: u8) -> Text
 /// Writes `join TICK P`.
 #[tactic(auto, using(crate::proofs::Joined::texts))]
 fn put_join(tick: u64, p: u8) -> Text
-    ensures { result.items ≡ note_text (Note.Join tick p) }
+    ensures text { result.items ≡ note_text (Note.Join tick p) }
+    ensures short { length result.items < LINE_BYTES }
 {
     and_dec(and_dec(start(b"join"), tick), p as u64)
 }
@@ -123,7 +132,8 @@ fn word_of_good(good: bool) -> &'static [u8]
 /// Writes `joined TICK P` and how.
 #[tactic(auto, using(crate::proofs::Joined::texts))]
 fn put_joined(tick: u64, p: u8, good: bool) -> Text
-    ensures { result.items ≡ note_text (Note.Joined tick p good) }
+    ensures text { result.items ≡ note_text (Note.Joined tick p good) }
+    ensures short { length result.items < LINE_BYTES }
 {
     and_word(
         and_dec(and_dec(start(b"joined"), tick), p as u64),
@@ -137,6 +147,7 @@ fn put_joined(tick: u64, p: u8, good: bool) -> Text
 pub fn put_count(name: Count, n: u64) -> Text
     ensures text { result.items ≡ count_text name n }
     ensures said { IsReadableCount name n → SaysIn report_rows (count_answer name n) result.items }
+    ensures short { length result.items < LINE_BYTES }
 {
     count_line(name, n)
 }
@@ -144,7 +155,8 @@ pub fn put_count(name: Count, n: u64) -> Text
 /// Writes the line of a count.
 #[tactic(auto, using(crate::proofs::Joined::texts))]
 fn count_line(name: Count, n: u64) -> Text
-    ensures { result.items ≡ count_text name n }
+    ensures text { result.items ≡ count_text name n }
+    ensures short { length result.items < LINE_BYTES }
 {
     match name {
         Count::Runs => and_dec(start(b"runs"), n),
@@ -159,6 +171,7 @@ fn count_line(name: Count, n: u64) -> Text
 pub fn put_end(e: &End) -> Text
     ensures text { result.items ≡ end_text e.now }
     ensures said { IsReadableEnd e.now → SaysIn report_rows ReportLine.End result.items }
+    ensures short { length result.items < LINE_BYTES }
 {
     end_line(*e)
 }
@@ -166,7 +179,8 @@ pub fn put_end(e: &End) -> Text
 /// Writes an end line.
 #[tactic(auto, using(crate::proofs::Joined::texts))]
 fn end_line(e: End) -> Text
-    ensures { result.items ≡ end_text e }
+    ensures text { result.items ≡ end_text e }
+    ensures short { length result.items < LINE_BYTES }
 {
     match e {
         End::Script => start(b"end script"),
@@ -181,14 +195,16 @@ fn end_line(e: End) -> Text
 /// Writes `end bad LINE COLUMN`.
 #[tactic(auto, using(crate::proofs::Joined::texts))]
 fn put_bad(line: u64, column: u32) -> Text
-    ensures { result.items ≡ end_text (End.Bad line column) }
+    ensures text { result.items ≡ end_text (End.Bad line column) }
+    ensures short { length result.items < LINE_BYTES }
 {
     and_dec(and_dec(start(b"end bad"), line), column as u64)
 }
 
 /// Writes `end outside LINE` and the reason.
 fn put_outside(line: u64, reason: Reason) -> Text
-    ensures { result.items ≡ end_text (End.Outside line reason) }
+    ensures text { result.items ≡ end_text (End.Outside line reason) }
+    ensures short { length result.items < LINE_BYTES }
 {
     match reason {
         Reason::Second { tainted, named } => put_second(line, tainted, named),
@@ -200,7 +216,8 @@ fn put_outside(line: u64, reason: Reason) -> Text
 /// Writes `end outside LINE second T P`.
 #[tactic(auto, using(crate::proofs::Joined::texts))]
 fn put_second(line: u64, tainted: u8, named: u8) -> Text
-    ensures { result.items ≡ end_text (End.Outside line (Reason.Second tainted named)) }
+    ensures text { result.items ≡ end_text (End.Outside line (Reason.Second tainted named)) }
+    ensures short { length result.items < LINE_BYTES }
 {
     let text = and_word(and_dec(start(b"end outside"), line), b"second");
     and_dec(and_dec(text, tainted as u64), named as u64)
@@ -209,7 +226,8 @@ fn put_second(line: u64, tainted: u8, named: u8) -> Text
 /// Writes `end outside LINE slow P MISSES`.
 #[tactic(auto, using(crate::proofs::Joined::texts))]
 fn put_slow(line: u64, p: u8, misses: u8) -> Text
-    ensures { result.items ≡ end_text (End.Outside line (Reason.Slow p misses)) }
+    ensures text { result.items ≡ end_text (End.Outside line (Reason.Slow p misses)) }
+    ensures short { length result.items < LINE_BYTES }
 {
     let text = and_word(and_dec(start(b"end outside"), line), b"slow");
     and_dec(and_dec(text, p as u64), misses as u64)
@@ -218,7 +236,8 @@ fn put_slow(line: u64, p: u8, misses: u8) -> Text
 /// Writes `end outside LINE board B`.
 #[tactic(auto, using(crate::proofs::Joined::texts))]
 fn put_both_boards(line: u64, board: u8) -> Text
-    ensures { result.items ≡ end_text (End.Outside line (Reason.BothBoards board)) }
+    ensures text { result.items ≡ end_text (End.Outside line (Reason.BothBoards board)) }
+    ensures short { length result.items < LINE_BYTES }
 {
     let text = and_word(and_dec(start(b"end outside"), line), b"board");
     and_dec(text, board as u64)

@@ -2,7 +2,7 @@
 
 ghost use Rattle.std.specs.Prelude.{◌≡◌, ◌<◌, true, false, IsSome, ◌↔◌, None};
 ghost use Rattle.std.specs.Option.{option_map_or};
-ghost use Rattle.s2_voter.specs.VoterState.{has_two_latches, is_member, latch_of};
+ghost use Rattle.s2_voter.specs.VoterState.{IsVoter, has_two_latches, is_member, latch_of};
 ghost use Rattle.s2_voter.specs.VoterCalls.{cleared_voter, latched_voter, new_voter, older, remaining_age, started_age, ticked_voter, with_member, without_member};
 ghost use Rattle.s2_voter.specs.Verdicts.{agreed_request, differing_member, done_with, is_differing, is_due, is_timed_out, is_unlatched, late_member, verdict_of};
 
@@ -103,7 +103,8 @@ impl Voter {
         requires processor { p < 3 }
         requires member { is_member self.old p ≡ true }
         requires unlatched { latch_of self.old p ≡ None }
-        ensures { self.new ≡ latched_voter p posted self.old }
+        ensures latched { self.new ≡ latched_voter p posted self.old }
+        ensures kept { IsVoter self.new }
     {
         self.latches[p as usize] = Some(posted);
         self.age = started(has_two(self.latches.as_slice()), self.age);
@@ -113,7 +114,8 @@ impl Voter {
     /// the age becomes absent.
     pub fn drop_member(&mut self, p: u8)
         requires { p < 3 }
-        ensures { self.new ≡ without_member p self.old }
+        ensures dropped { self.new ≡ without_member p self.old }
+        ensures kept { IsVoter self.new }
     {
         self.members[p as usize] = false;
         self.latches[p as usize] = None;
@@ -124,6 +126,7 @@ impl Voter {
     pub fn add_member(&mut self, p: u8)
         requires { p < 3 }
         ensures members { self.new ≡ with_member p self.old }
+        ensures kept { IsVoter self.new }
         ensures unlatched { is_member self.old p ≡ false → latch_of self.new p ≡ None }
     {
         self.members[p as usize] = true;
@@ -131,7 +134,8 @@ impl Voter {
 
     /// No latch, and no age.
     pub fn clear(&mut self)
-        ensures { self.new ≡ cleared_voter self.old }
+        ensures cleared { self.new ≡ cleared_voter self.old }
+        ensures kept { IsVoter self.new }
     {
         self.latches = ArrayVec::from([None; 3]);
         self.age = None;
@@ -139,15 +143,25 @@ impl Voter {
 
     /// One tick passes: a present age below the timer grows by one.
     pub fn tick(&mut self)
-        ensures { self.new ≡ ticked_voter self.old }
+        ensures ticked { self.new ≡ ticked_voter self.old }
+        ensures kept { IsVoter self.new }
     {
         self.age = grown(self.age);
+    }
+
+    /// Whether `p`, which is below 3, is a member.
+    pub fn is_member(&self, p: u8) -> bool
+        requires { p < 3 }
+        ensures { result ≡ is_member self.now p }
+    {
+        self.members[p as usize]
     }
 
     /// The latch of `p`, which is below 3. `None` exactly where it has no latch.
     pub fn latched(&self, p: u8) -> Option<Posted>
         requires { p < 3 }
-        ensures { result ≡ latch_of self.now p }
+        ensures latch { result ≡ latch_of self.now p }
+        ensures kept { IsVoter self.now }
     {
         self.latches[p as usize]
     }
@@ -233,7 +247,7 @@ impl Voter {
         requires { p < 3 }
         ensures { result ≡ is_unlatched self.now p }
     {
-        self.members[p as usize] && self.latches[p as usize].is_none()
+        self.is_member(p) && self.latches[p as usize].is_none()
     }
 
     /// Whether `p` is a member whose latch holds another request.

@@ -8,3 +8,6 @@ returns-in-Ok-clause-accepted c = record {
   accepted = accepted c.args.bytes.now (sym c.refusal.ensures.refusal ∙ c.in-None.is);
   same = c.in-Ok.ensures;
 }
+
+pub returns-in-Err-clause-refused : goal.returns-in-Err-clause-refused
+returns-in-Err-clause-refused c = accepted c.args.bytes.now (sym c.refusal.ensures.refusal ∙ c.in-None.is)
