@@ -1,0 +1,3 @@
+pub mod UniqueImages
+pub mod LaidWords
+pub mod SaidLines

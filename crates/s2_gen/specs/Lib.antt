@@ -1,0 +1,3 @@
+pub mod WorkloadProgram
+pub mod ProgramImage
+pub mod WorkloadScript
