@@ -1,0 +1,17 @@
+pub mod TriplexCores
+pub mod R2000Triplex
+pub mod ModuleState
+pub mod ModuleFiring
+pub mod ModuleAnswer
+pub mod ModuleFaults
+pub mod TriplexState
+pub mod ReferenceMachine
+pub mod TickFirings
+pub mod VotedAccess
+pub mod VoterDecision
+pub mod CopyHolds
+pub mod TickStep
+pub mod ActStep
+pub mod StepRefusals
+pub mod StepTurns
+pub mod TriplexSteps
