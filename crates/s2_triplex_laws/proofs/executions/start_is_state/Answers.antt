@@ -1,0 +1,5 @@
+use Rattle.s2_triplex_laws.proofs.TriplexStates.{start_is_state}
+use Rattle.s2_triplex_laws.proofs.executions.start_is_state.Goals as goal
+
+pub returns : goal.returns
+returns c = start_is_state

@@ -1,0 +1,5 @@
+use Rattle.s2_triplex_laws.proofs.MaskingLaws.{sync_keeps_replicas}
+use Rattle.s2_triplex_laws.proofs.steps.sync_keeps_replicas.Goals as goal
+
+pub returns : goal.returns
+returns c = sync_keeps_replicas
