@@ -1,0 +1,9 @@
+pub mod DeliveredEvents
+pub mod ByteMasks
+pub mod VoterSteps
+pub mod TakenMarks
+pub mod AgreedCounts
+pub mod HoldTicks
+pub mod PlantSteps
+pub mod PlantPromises
+pub mod ProperActs

@@ -1,0 +1,3 @@
+pub mod StepParts
+pub mod ActRanges
+pub mod StepPromises

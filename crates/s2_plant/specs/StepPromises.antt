@@ -1,0 +1,77 @@
+-- What every plant keeps, and what its calls tell: the laws of the triple machine, of the R2000 over two boards.
+use Rattle.std.specs.Prelude.{ℕ, ◌≡◌, ◌<◌, ◌≤◌, ◌+◌, ◌-◌, ◌^◌, not, List, [], ◌∷◌, ◌++◌, length, true, false, Some, None, IfOk, is_some}
+use Rattle.std.specs.declared.result.Result.{Result}
+use Rattle.s2_duplex.specs.DuplexBoards.{IsDuplex, contents}
+use Rattle.s2_join.specs.declared.item.Item.{Item}
+use Rattle.s2_join.specs.CopyOrder.{is_last_item}
+use Rattle.s2_script.specs.declared.entry.Act.{Act}
+use Rattle.s2_journal.specs.declared.note.Reason.{Reason}
+use Rattle.s2_journal.specs.declared.note.Note.TheVariants.{Joined}
+use Rattle.s2_plant_laws.specs.declared.numbers.TheConstants.{STATED_REINTEGRATION, STATED_WAIT}
+use Rattle.s2_triplex.specs.declared.numbers.TheConstants.{INBOX_EVENTS}
+use Rattle.s2_triplex.specs.R2000Triplex.{r2000_triplex}
+use Rattle.s2_triplex.specs.TriplexState.{TriplexState, Reintegration, module_at, posted_at}
+use Rattle.s2_triplex.specs.CopyHolds.{is_holding}
+use Rattle.s2_triplex.specs.StepTurns.{Turn}
+use Rattle.s2_triplex_laws.specs.LatchAgreement.{IsGood}
+use Rattle.s2_triplex_laws.specs.DecisionFacts.{GoodAreIn}
+use Rattle.s2_triplex_laws.specs.ReferenceFacts.{AheadOfReference, FrameEndsDue}
+use Rattle.s2_triplex_laws.specs.ReferenceAdvance.{ReferenceAdvance}
+use Rattle.s2_triplex_laws.specs.StepNotes.{deliveries_in, told_effects}
+use Rattle.s2_triplex_laws.specs.EventOrder.{accepted_by, events_of}
+use Rattle.s2_triplex_laws.specs.LawfulSteps.{TickDecisions}
+use Rattle.s2_triplex_laws.specs.OpenRepair.{ClosedFacts, OpenFacts}
+use Rattle.s2_triplex_laws.specs.RepairSteps.{IsReintegrated}
+use Rattle.s2_triplex_laws.specs.TriplexStates.{IsTriplexState}
+
+-- every plant: it is a state of the triple machine, and has accepted no more events than it may
+pub record IsPlant (d : TriplexState) : Type 0 where
+  pub state : IsTriplexState r2000_triplex d
+  pub events : d.accepted ≤ 2 ^ 60
+
+-- what is known of an open reintegration: copied pages are equal, and it has not taken the stated time
+pub record OpenInTime (d : TriplexState) (j : Reintegration) : Type 0 where
+  pub facts : OpenFacts d j
+  pub in_time : d.ticks < j.revived + STATED_REINTEGRATION
+
+-- What holds of every plant. The good processors are in, each posted its request less than the stated wait ago, and
+-- local cycles lead to each from the reference machine; frame ends are due in all of them alike; the events that
+-- wait are those accepted and not delivered; the boards stand for one list; and so much is known of a reintegration.
+pub record PlantFacts (d : TriplexState) : Type 0 where
+  pub good : GoodAreIn d
+  pub waits : (p : ℕ) → p < 3 → IsGood d p → is_some (module_at d.modules p).port ≡ true → d.ticks - posted_at d.posted p < STATED_WAIT
+  pub ahead : (p : ℕ) → p < 3 → IsGood d p → AheadOfReference r2000_triplex d p
+  pub frame_ends : FrameEndsDue r2000_triplex d
+  pub inbox : d.delivered + length d.inbox ≡ d.accepted
+  pub room : length d.inbox ≤ INBOX_EVENTS
+  pub boards : IsDuplex d.boards
+  pub opened : (j : Reintegration) → d.reintegration ≡ Some j → OpenInTime d j
+  pub closed : d.reintegration ≡ None → ClosedFacts d
+
+-- the tick of the last saved word: the processors are equal and in, and its one note says so
+pub record EndsReintegration (tick : ℕ) (e : TriplexState) (j : Reintegration) (turn : Turn) : Type 0 where
+  pub state : IsReintegrated e j
+  pub note : turn.notes ≡ Joined tick j.copying.joiner (not j.disturbed) ∷ []
+
+-- What an accepted tick tells, by the turn that it answers. The reference machine runs on as one processor alone
+-- would, under the deliveries of the turn, with its byte; the delivered events were the first that waited; outside of
+-- a hold the verdict is right and in time, and not split; and the last saved word ends a reintegration.
+pub record TickFacts (d : TriplexState) (mask : ℕ) (e : TriplexState) (turn : Turn) : Type 0 where
+  pub advance : ReferenceAdvance r2000_triplex d e (told_effects turn)
+  pub events : events_of (deliveries_in turn.notes) ++ e.inbox ≡ d.inbox
+  pub decides : is_holding d.reintegration ≡ false → TickDecisions r2000_triplex d mask
+  pub ends : (j : Reintegration) (item : Item) (left : List Item) → d.reintegration ≡ Some j → j.copying.left ≡ item ∷ left → is_last_item item ≡ true → EndsReintegration (d.ticks + 1) e j turn
+
+-- What an accepted act tells. The reference machine is that of a good processor as before; nothing is delivered, and
+-- the event that it brings waits last; and global memory is as before.
+pub record ActFacts (d : TriplexState) (act : Act) (e : TriplexState) (turn : Turn) : Type 0 where
+  pub advance : ReferenceAdvance r2000_triplex d e (told_effects turn)
+  pub silent : deliveries_in turn.notes ≡ []
+  pub events : e.inbox ≡ d.inbox ++ accepted_by d act
+  pub contents : contents e.boards ≡ contents d.boards
+
+abbrev pub TickPromises : TriplexState → ℕ → TriplexState → Result Turn Reason → Type 0
+TickPromises d mask e answer = IfOk answer (TickFacts d mask e)
+
+abbrev pub ActPromises : TriplexState → Act → TriplexState → Result Turn Reason → Type 0
+ActPromises d act e answer = IfOk answer (ActFacts d act e)
