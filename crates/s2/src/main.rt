@@ -22,6 +22,7 @@ fn status_of(rt: HostRuntime, words: &[String]) -> Status {
         &mut input,
         &mut console,
         &mut report,
+        &mut None,
     )
 }
 

@@ -16,9 +16,9 @@ use Rattle.s2_run.specs.InputLines.{InputLine, lines_of, size_of}
 use Rattle.s2_run.specs.NextLine.{HasLine, HasLongLine, HasFront}
 use Rattle.s2_run.specs.ScriptCheck.{IsScriptLine, Pass, Judges}
 use Rattle.s2_run.specs.CheckCommand.{TakesFront}
-use Rattle.s2_run.specs.declared.check.Verdict.TheVariants.{Passed, Bad, TooLong}
+use Rattle.s2_run.specs.declared.verdict.Verdict.TheVariants.{Passed, Bad, TooLong}
 
-size_append : (a b : List InputLine) → size_of (a ++ b) ≡ size_of a + size_of b
+pub size_append : (a b : List InputLine) → size_of (a ++ b) ≡ size_of a + size_of b
 size_append [] b = omega arith
 size_append (l ∷ a) b = let h = size_append a b in omega arith
 

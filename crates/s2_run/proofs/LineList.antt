@@ -11,13 +11,8 @@ use Rattle.s2_io.specs.declared.traits.Failed.{Failed}
 use Rattle.s2_io.specs.Sources.{dropped}
 use Rattle.s2_text.specs.HeldLine.{held_after}
 use Rattle.s2_run.specs.SentPieces.{next_of, byte_count}
-use Rattle.s2_run.specs.InputLines.{InputLine, empty_line, with_byte, lines_of}
+use Rattle.s2_run.specs.InputLines.{InputLine, IsPlain, empty_line, with_byte, lines_of}
 use Rattle.s2_run.specs.NextLine.{HasLine, HasLongLine, HasFront}
-
--- bytes without a line feed
-abbrev pub IsPlain : List ℕ → Type 0
-IsPlain [] = Unit {0}
-IsPlain (b ∷ bs) = (b ≡ 10 → ⊥) × IsPlain bs
 
 plain_more : (bs : List ℕ) (b : ℕ) → IsPlain bs → (b ≡ 10 → ⊥) → IsPlain (bs ++ b ∷ [])
 plain_more [] b p other = (other, tt)
@@ -187,6 +182,10 @@ end_some {input} {held} {bytes} {left} r some = record {
   rest_is = rest_after input input [] bytes (sym (append-nil input)) r.count;
 }
 
+-- what is left is nothing
+pub none_rest : {left : Option (List ℕ)} {rest : List ℕ} → left ≡ Some rest → left ≡ Some [] → rest ≡ []
+none_rest {left} {rest} a b = (let e : Some rest ≡ Some [] = sym a ∙ b in cc)
+
 -- a byte beyond the room
 pub read_long : {input held : List ℕ} {bytes room : ℕ} {left left' : Option (List ℕ)} (next : Option ℕ) (b : ℕ) → (r : ReadPart input bytes held left) → next ≡ Some b → next ≡ next_of r.rest → left' ≡ dropped left (byte_count {E = Failed} (Ok next)) → bytes ≡ room → HasLongLine input room left'
 read_long {input} {held} {bytes} {room} {left} {left'} next b r is h step full =
@@ -202,10 +201,14 @@ read_long {input} {held} {bytes} {room} {left} {left'} next b r is h step full =
       left_is = t.left_is ∙ ap Some (rest_after input (r.front ++ b ∷ []) t.bytes (room + 1) all (omega (arith, length-append r.front (b ∷ []), r.count)));
     }
 
+front_of : (input front rest : List ℕ) (n : ℕ) → input ≡ front ++ rest → length front ≡ n → take n input ≡ front
+front_of input front rest n whole count = ap (λ (k : ℕ). take k input) (sym count) ∙ (ap (take (length front)) whole ∙ take-append_seam front rest)
+
 -- a read that fails leaves the rest
 pub read_failed : {input held : List ℕ} {bytes room : ℕ} {left left' : Option (List ℕ)} → ReadPart input bytes held left → bytes ≤ room → left' ≡ dropped left 0 → HasFront input room left'
 read_failed {input} {held} {bytes} {room} {left} {left'} r most step = record {
   bytes = bytes;
+  plain = subst IsPlain (sym (front_of input r.front r.rest bytes r.input_is r.count)) r.plain;
   within = most;
   left_is = step ∙ (ap (λ (o : Option (List ℕ)). dropped o 0) r.left_is ∙ ap Some (rest_after input r.front r.rest bytes r.input_is r.count));
 }

@@ -2,6 +2,8 @@
 use Rattle.std.proofs.Common.{◌≡◌, ℕ, ◌≤◌, ◌<◌, List, [], ◌∷◌, length, map, slice_index_or, refl, sym, ap, arith, ◌∙◌, subst}
 use Rattle.std.specs.Prelude.{decimal}
 use Rattle.std.proofs.lemmas.Fmt.{decimal_injective}
+use Rattle.std.specs.declared.option.Option.{Option}
+use Rattle.s2_triplex.specs.TriplexState.{TriplexState}
 use Rattle.s2_run.specs.CommandWords.{Request, run, single, check, load, words_of, IsOffered}
 use Rattle.s2_run.specs.SeenObjects.{Seen}
 use Rattle.s2_run.specs.ServedCommands.{Answers}
@@ -33,5 +35,5 @@ one_request (load m) check h k e = absurd cc
 one_request (load m) (load n) h k e = ap load (decimal_injective m n (omega (arith, h.1)) (omega (arith, k.1)) (let f : decimal m ≡ decimal n = cc in f))
 
 -- so an answer to what they ask for is one to every request with these words
-pub answers : (words : List (List ℕ)) (said request : Request) (answer : Status) (old new : Seen) → IsOffered said → IsOffered request → words ≡ words_of said → words ≡ words_of request → Answers said answer old new → Answers request answer old new
-answers words said request answer old new h k a b x = subst (λ (q : Request). Answers q answer old new) (one_request said request h k (sym a ∙ b)) x
+pub answers : (words : List (List ℕ)) (said request : Request) (answer : Status) (last : Option TriplexState) (old new : Seen) → IsOffered said → IsOffered request → words ≡ words_of said → words ≡ words_of request → Answers said answer last old new → Answers request answer last old new
+answers words said request answer last old new h k a b x = subst (λ (q : Request). Answers q answer last old new) (one_request said request h k (sym a ∙ b)) x

@@ -8,8 +8,8 @@ use Rattle.s2_run.specs.declared.limits.TheConstants.{INPUT_LIMIT}
 use Rattle.s2_run.specs.ReportText.{verdict_line}
 use Rattle.s2_run.specs.SeenObjects.{Seen, SinkSeen, IsCut, SinkRose}
 use Rattle.s2_run.specs.ScriptCheck.{Judges}
-use Rattle.s2_run.specs.declared.check.Verdict.{Verdict}
-use Rattle.s2_run.specs.declared.check.Verdict.TheVariants.{Passed, Bad, TooLong as LongInput}
+use Rattle.s2_run.specs.declared.verdict.Verdict.{Verdict}
+use Rattle.s2_run.specs.declared.verdict.Verdict.TheVariants.{Passed, Bad, TooLong as LongInput}
 use Rattle.s2_run.specs.declared.output.StreamFault.{StreamFault}
 use Rattle.s2_run.specs.declared.output.StreamFault.TheVariants.{Read, Write}
 use Rattle.s2_run.specs.declared.status.Status.{Status}

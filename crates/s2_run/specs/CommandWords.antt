@@ -2,7 +2,7 @@
 use Rattle.std.specs.Prelude.{ℕ, ◌≡◌, ◌≢◌, ◌≤◌, List, [], ◌∷◌, codes, decimal}
 use Rattle.s2_run.specs.declared.words.Command.{Command}
 use Rattle.s2_run.specs.declared.words.Command.TheVariants.{Run, Single, Check, Load}
-use Rattle.s2_run.specs.declared.limits.TheConstants.{WORKLOADS}
+use Rattle.s2_gen.specs.declared.workloads.TheConstants.{WORKLOADS}
 
 -- what a command line asks for
 pub data Request : Type 0 where

@@ -1,7 +1,12 @@
 -- An input as its lines. A line ends with a line feed or with the end of the input; an input that ends with a line feed, or is
 -- empty, has no further line.
-use Rattle.std.specs.Prelude.{ℕ, ◌==◌, ◌+◌, List, [], ◌∷◌, if◌then◌else◌}
+use Rattle.std.specs.Prelude.{ℕ, ◌≢◌, ◌==◌, ◌+◌, List, [], ◌∷◌, if◌then◌else◌}
 use Rattle.s2_text.specs.declared.lines.TheConstants.{LINE_FEED}
+
+-- bytes without a line feed
+abbrev pub IsPlain : List ℕ → Type 0
+IsPlain [] = Unit {0}
+IsPlain (b ∷ bs) = (b ≢ LINE_FEED) × IsPlain bs
 
 -- a line: its bytes without its line feed, and how many bytes of the input it has, its line feed among them
 pub record InputLine : Type 0 where

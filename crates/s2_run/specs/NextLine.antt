@@ -4,7 +4,7 @@ use Rattle.std.specs.declared.option.Option.{Option}
 use Rattle.std.specs.declared.result.Result.{Result}
 use Rattle.s2_io.specs.declared.traits.Failed.{Failed}
 use Rattle.s2_text.specs.declared.lines.TheConstants.{HELD_BYTES}
-use Rattle.s2_run.specs.InputLines.{InputLine, lines_of}
+use Rattle.s2_run.specs.InputLines.{InputLine, IsPlain, lines_of}
 use Rattle.s2_run.specs.declared.lines.LineRead.{LineRead}
 use Rattle.s2_run.specs.declared.lines.LineRead.TheVariants.{Line, End, TooLong}
 
@@ -25,9 +25,10 @@ pub record HasLongLine (input : List ℕ) (room : ℕ) (left : Option (List ℕ)
   pub long : room < line.size
   pub left_is : left ≡ Some (drop (room + 1) input)
 
--- a front of the input was read
+-- a front of the input was read, without a line feed
 pub record HasFront (input : List ℕ) (room : ℕ) (left : Option (List ℕ)) : Type 0 where
   pub bytes : ℕ
+  pub plain : IsPlain (take bytes input)
   pub within : bytes ≤ room
   pub left_is : left ≡ Some (drop bytes input)
 

@@ -1,24 +1,25 @@
 -- The lines of a report, each with its line feed.
 use Rattle.std.specs.Prelude.{ℕ, List, [], ◌∷◌, ◌++◌, codes}
+use Rattle.s2_journal.specs.ReportLines.{count_text, end_text}
+use Rattle.s2_journal.specs.declared.note.Count.TheVariants.{Runs, Ticks, Bytes}
+use Rattle.s2_journal.specs.declared.note.End.{End}
 use Rattle.s2_elf.specs.declared.fault.ElfFault.{ElfFault}
-use Rattle.s2_text.specs.HexText.{hex_text}
 use Rattle.s2_run.specs.RefusalText.{counted_text, refusal_text}
-use Rattle.s2_run.specs.declared.check.Verdict.{Verdict}
-use Rattle.s2_run.specs.declared.check.Verdict.TheVariants.{Passed, Bad, TooLong}
+use Rattle.s2_run.specs.declared.verdict.Verdict.{Verdict}
+use Rattle.s2_run.specs.declared.verdict.Verdict.TheVariants.{Passed, Bad, TooLong}
 
 -- a text and its line feed
 abbrev pub line_with : List ℕ → List ℕ
 line_with text = text ++ 10 ∷ []
 
--- the end of a run that halted with a word
-abbrev pub halt_text : ℕ → List ℕ
-halt_text value = codes "end halt" ++ 32 ∷ hex_text 8 value
+-- the end lines of a run: its run cycles, its ticks, its console bytes, and its end
+abbrev pub end_lines : ℕ → ℕ → ℕ → End → List ℕ
+end_lines runs ticks bytes end =
+    (line_with (count_text Runs runs) ++ line_with (count_text Ticks ticks)) ++ (line_with (count_text Bytes bytes) ++ line_with (end_text end))
 
--- the end lines of a run: its run cycles, its ticks, its console bytes, and the halt value
-abbrev pub end_lines : ℕ → ℕ → ℕ → ℕ → List ℕ
-end_lines runs ticks bytes value =
-    (line_with (counted_text (codes "runs") runs) ++ line_with (counted_text (codes "ticks") ticks))
-    ++ (line_with (counted_text (codes "bytes") bytes) ++ line_with (halt_text value))
+-- the closing lines of a replay: its run cycles, its console bytes, and its end
+abbrev pub replay_lines : ℕ → ℕ → End → List ℕ
+replay_lines runs bytes end = line_with (count_text Runs runs) ++ (line_with (count_text Bytes bytes) ++ line_with (end_text end))
 
 -- words that ask for nothing that is offered
 abbrev pub usage_line : List ℕ

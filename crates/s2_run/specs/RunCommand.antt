@@ -1,30 +1,41 @@
 -- How the command `run NAME` ends.
-use Rattle.std.specs.Prelude.{ℕ, ◌≡◌, ◌<◌, ◌≤◌, ◌⊎◌, List, [], length, take, drop, true, Some, Ok, Err}
+use Rattle.std.specs.Prelude.{ℕ, ◌≡◌, ◌<◌, ◌⊎◌, List, length, Some, None, Ok, Err, IsSome}
 use Rattle.std.specs.declared.option.Option.{Option}
 use Rattle.std.specs.declared.result.Result.{Result}
 use Rattle.s2_io.specs.Counts.{Rose}
-use Rattle.s2_elf.specs.Files.{accepts, refusal}
 use Rattle.s2_elf.specs.Images.{image_of}
-use Rattle.s2_elf.specs.declared.fault.ElfFault.{ElfFault}
+use Rattle.s2_elf.specs.MemoryImage.{MemoryImage}
+use Rattle.s2_journal.specs.declared.note.End.{End}
+use Rattle.s2_journal.specs.declared.note.End.TheVariants.{Script, Halt, Bad, Outside as OutsideEnd, TooLong as LongEnd, Report}
+use Rattle.s2_triplex.specs.TriplexState.{TriplexState}
 use Rattle.s2_run.specs.declared.limits.TheConstants.{FILE_LIMIT}
-use Rattle.s2_run.specs.Transcript.{Outlet, Report, for_outlet, Written, Untouched}
+use Rattle.s2_run.specs.LoadedFiles.{IsAccepted, IsRefused, IsFileLine, WroteLine, CutLine}
 use Rattle.s2_run.specs.ReportText.{too_big_line, elf_line}
-use Rattle.s2_run.specs.Script.{first_line, first_taken, IsTicks}
-use Rattle.s2_run.specs.Execution.{cycle_limit, Halts, Stops, halt_transcript, stop_transcript}
-use Rattle.s2_run.specs.SeenObjects.{Seen, Wrote, DidNothing, SinkRose}
+use Rattle.s2_run.specs.SeenObjects.{Seen, SinkSeen, Streams, streams_of, SinkRose}
+use Rattle.s2_run.specs.ScriptRuns.{ScriptRun, end_of}
+use Rattle.s2_run.specs.RunTranscript.{Taken, taken}
+use Rattle.s2_run.specs.ScriptEndings.{RunEnds, RunsInput}
+use Rattle.s2_run.specs.MaskedRuns.{first_triplex, ScriptsAreMasked}
+use Rattle.s2_run.specs.declared.output.StreamFault.{StreamFault}
 use Rattle.s2_run.specs.declared.output.StreamFault.TheVariants.{Read, Write}
-use Rattle.s2_run.specs.declared.run.ProgramEnd.TheVariants.{Halted, Unbuilt}
+use Rattle.s2_run.specs.declared.fault.ProgramFault.{ProgramFault}
+use Rattle.s2_run.specs.declared.fault.ProgramFault.TheVariants.{File, Stream, Memory as NoMemory}
 use Rattle.s2_run.specs.declared.run.RunEnd.{RunEnd}
-use Rattle.s2_run.specs.declared.run.RunEnd.TheVariants.{Program, Refused, TooBig as LargeFile}
-use Rattle.s2_run.specs.declared.run.RunFault.{RunFault}
-use Rattle.s2_run.specs.declared.run.RunFault.TheVariants.{File, Stream, Memory as NoMemory}
+use Rattle.s2_run.specs.declared.run.RunEnd.TheVariants.{Ended, Refused, TooBig as LargeFile}
 use Rattle.s2_run.specs.declared.status.Status.{Status}
-use Rattle.s2_run.specs.declared.status.Status.TheVariants.{Done, Elf, ReadFault, WriteFault, TooBig, Memory, NotBuilt}
+use Rattle.s2_run.specs.declared.status.Status.TheVariants.{Done, Elf, BadLine, Outside, ReadFault, WriteFault, TooBig, TooLong, Memory}
 
--- the status of an outcome
-abbrev pub run_status : Result RunEnd RunFault → Status
-run_status (Ok (Program Halted)) = Done
-run_status (Ok (Program Unbuilt)) = NotBuilt 1
+-- the status of an end, and of an outcome
+abbrev pub end_status : End → Status
+end_status Script = Done
+end_status (Halt value) = Done
+end_status (Bad line column) = BadLine line column
+end_status (OutsideEnd line reason) = Outside line reason
+end_status (LongEnd line) = TooLong line
+end_status Report = Done
+
+abbrev pub run_status : Result RunEnd ProgramFault → Status
+run_status (Ok (Ended end)) = end_status end
 run_status (Ok (Refused fault)) = Elf fault
 run_status (Ok LargeFile) = TooBig FILE_LIMIT
 run_status (Err File) = ReadFault
@@ -32,94 +43,73 @@ run_status (Err (Stream Read)) = ReadFault
 run_status (Err (Stream Write)) = WriteFault
 run_status (Err NoMemory) = Memory
 
--- a file is small enough, and accepted
-pub record IsAccepted (file : List ℕ) : Type 0 where
-  pub fits : length file ≤ FILE_LIMIT
-  pub accepted : accepts file ≡ true
+-- what the console and the report have taken
+abbrev pub taken_of : Streams → Taken
+taken_of s = taken s.console s.report
 
--- a file is small enough, and refused with this fault
-pub record IsRefused (file : List ℕ) (fault : ElfFault) : Type 0 where
-  pub fits : length file ≤ FILE_LIMIT
-  pub refused : refusal file ≡ Some fault
+-- the run of a program under a script has ended so, and the machine to which it came is left
+pub record LeavesMachine (image : MemoryImage) (input : List ℕ) (result : Result End StreamFault) (last : Option TriplexState) (old new : Streams) : Type 0 where
+  pub state : TriplexState
+  pub last_is : last ≡ Some state
+  pub ends : RunEnds (first_triplex image) input result state (taken_of old) (taken_of new) new.left
 
--- a command whose end and transcript are these ends so, and its transcript was written; or a write failed, and a front of the
--- transcript was written; or a read failed or memory was refused, and nothing was written
-abbrev pub Ends : RunEnd → List (Outlet × ℕ) → Result RunEnd RunFault → Option (List ℕ) → Option (List ℕ) → Option (List ℕ) → Option (List ℕ) → Type 0
-Ends own transcript (Ok end) console console' report report' = (end ≡ own) × Written transcript console console' report report'
-Ends own transcript (Err (Stream Write)) console console' report report' = (n : ℕ) × Written (take n transcript) console console' report report'
-Ends own transcript (Err File) console console' report report' = Untouched console console' report report'
-Ends own transcript (Err (Stream Read)) console console' report report' = Untouched console console' report report'
-Ends own transcript (Err NoMemory) console console' report report' = Untouched console console' report report'
+-- how the command ends where the program was loaded
+abbrev pub ProgramRuns : MemoryImage → List ℕ → Result RunEnd ProgramFault → Option TriplexState → Streams → Streams → Type 0
+ProgramRuns image input (Ok (Ended end)) last old new = LeavesMachine image input (Ok end) last old new
+ProgramRuns image input (Ok (Refused fault)) last old new = ⊥
+ProgramRuns image input (Ok LargeFile) last old new = ⊥
+ProgramRuns image input (Err File) last old new = ⊥
+ProgramRuns image input (Err (Stream fault)) last old new = LeavesMachine image input (Err fault) last old new
+ProgramRuns image input (Err NoMemory) last old new = (new ≡ old) × (last ≡ None)
 
--- an accepted file and a first line of ticks, under which the program halts
-pub record RunsToHalt (file input : List ℕ) : Type 0 where
-  pub accepted : IsAccepted file
-  pub ticks : ℕ
-  pub line : IsTicks (first_line input) ticks
-  pub cycles : ℕ
-  pub value : ℕ
-  pub halts : Halts (image_of file) (cycle_limit ticks) cycles value
+-- how the command ends on a file and an input: the program of an accepted file is run, and another file is refused
+abbrev pub RunsFile : List ℕ → List ℕ → Result RunEnd ProgramFault → Option TriplexState → Streams → Streams → Type 0
+RunsFile file input (Ok (Ended end)) last old new = IsAccepted file × LeavesMachine (image_of file) input (Ok end) last old new
+RunsFile file input (Ok (Refused fault)) last old new = IsRefused file fault × WroteLine (elf_line fault) old new × (last ≡ None)
+RunsFile file input (Ok LargeFile) last old new = (FILE_LIMIT < length file) × WroteLine too_big_line old new × (last ≡ None)
+RunsFile file input (Err File) last old new = (new ≡ old) × (last ≡ None)
+RunsFile file input (Err (Stream Read)) last old new = IsAccepted file × LeavesMachine (image_of file) input (Err Read) last old new
+RunsFile file input (Err (Stream Write)) last old new =
+    (IsAccepted file × LeavesMachine (image_of file) input (Err Write) last old new) ⊎ ((line : List ℕ) × IsFileLine file line × CutLine line old new × (last ≡ None))
+RunsFile file input (Err NoMemory) last old new = (new ≡ old) × (last ≡ None)
 
--- the same, under which it stops
-pub record RunsToStop (file input : List ℕ) : Type 0 where
-  pub accepted : IsAccepted file
-  pub ticks : ℕ
-  pub line : IsTicks (first_line input) ticks
-  pub cycles : ℕ
-  pub stops : Stops (image_of file) (cycle_limit ticks) cycles
+-- why a stream fails, whatever the objects tell: which count rose
+abbrev pub RunStreamCause : StreamFault → ℕ → ℕ → SinkSeen → SinkSeen → SinkSeen → SinkSeen → Type 0
+RunStreamCause Read faults faults' console console' report report' = Rose faults faults'
+RunStreamCause Write faults faults' console console' report report' = SinkRose console console' ⊎ SinkRose report report'
 
--- an accepted file and another first line
-pub record HasOtherLine (file input : List ℕ) : Type 0 where
-  pub accepted : IsAccepted file
-  pub other : (n : ℕ) → ¬ IsTicks (first_line input) n
+-- why an outcome comes, whatever the objects tell, and whether a machine is left
+abbrev pub RunCause : List ℕ → Result RunEnd ProgramFault → Option TriplexState → Seen → Seen → Type 0
+RunCause name (Ok (Ended end)) last old new = IsSome last
+RunCause name (Ok (Refused fault)) last old new = WroteLine (elf_line fault) (streams_of old) (streams_of new) × (last ≡ None)
+RunCause name (Ok LargeFile) last old new = Rose old.desk.large new.desk.large × WroteLine too_big_line (streams_of old) (streams_of new) × (last ≡ None)
+RunCause name (Err File) last old new = Rose (old.desk.faults name) (new.desk.faults name) × (streams_of new ≡ streams_of old) × (last ≡ None)
+RunCause name (Err (Stream fault)) last old new = RunStreamCause fault old.input.faults new.input.faults old.console new.console old.report new.report
+RunCause name (Err NoMemory) last old new = (streams_of new ≡ streams_of old) × (last ≡ None)
 
--- where each end comes
-abbrev pub ComesOnly : List ℕ → List ℕ → Result RunEnd RunFault → Type 0
-ComesOnly file input (Ok (Program Halted)) = RunsToHalt file input
-ComesOnly file input (Ok (Program Unbuilt)) = RunsToStop file input ⊎ HasOtherLine file input
-ComesOnly file input (Ok (Refused fault)) = IsRefused file fault
-ComesOnly file input (Ok LargeFile) = FILE_LIMIT < length file
-ComesOnly file input (Err fault) = Unit {0}
+-- an end at which the script was read to its end, or the program halted
+abbrev pub IsWholeEnd : End → Type 0
+IsWholeEnd Script = Unit {0}
+IsWholeEnd (Halt value) = Unit {0}
+IsWholeEnd (Bad line column) = ⊥
+IsWholeEnd (OutsideEnd line reason) = ⊥
+IsWholeEnd (LongEnd line) = ⊥
+IsWholeEnd Report = ⊥
 
--- what was taken of an input: at most its first line
-pub record TakesLine (input : List ℕ) (left : Option (List ℕ)) : Type 0 where
-  pub count : ℕ
-  pub within : count ≤ first_taken input
-  pub rest : left ≡ Some (drop count input)
+-- no count of a fault rose, for this name
+pub record IsUndisturbed (name : List ℕ) (old new : Seen) : Type 0 where
+  pub desk : Rose (old.desk.faults name) (new.desk.faults name) → ⊥
+  pub input : Rose old.input.faults new.input.faults → ⊥
+  pub console : SinkRose old.console new.console → ⊥
+  pub report : SinkRose old.report new.report → ⊥
 
--- what was taken of an input: its first line where the program was run, or the line was another
-abbrev pub Takes : List ℕ → Result RunEnd RunFault → Option (List ℕ) → Type 0
-Takes input (Ok (Program Halted)) left = left ≡ Some (drop (first_taken input) input)
-Takes input (Ok (Program Unbuilt)) left = left ≡ Some (drop (first_taken input) input)
-Takes input (Ok (Refused fault)) left = left ≡ Some input
-Takes input (Ok LargeFile) left = left ≡ Some input
-Takes input (Err fault) left = TakesLine input left
-
--- why an outcome came, whatever the objects tell: which count rose, and what was not touched
-abbrev pub RunCause : List ℕ → Result RunEnd RunFault → Seen → Seen → Type 0
-RunCause name (Ok (Program end)) old new = Unit {0}
-RunCause name (Ok (Refused fault)) old new = Wrote (for_outlet Report (elf_line fault)) old new × (new.input.left ≡ old.input.left)
-RunCause name (Ok LargeFile) old new = Rose old.desk.large new.desk.large × Wrote (for_outlet Report too_big_line) old new × (new.input.left ≡ old.input.left)
-RunCause name (Err File) old new = Rose (old.desk.faults name) (new.desk.faults name) × DidNothing old new
-RunCause name (Err (Stream Read)) old new = Rose old.input.faults new.input.faults × Untouched old.console.taken new.console.taken old.report.taken new.report.taken
-RunCause name (Err (Stream Write)) old new = SinkRose old.console new.console ⊎ SinkRose old.report new.report
-RunCause name (Err NoMemory) old new = DidNothing old new
-
--- the command, by its outcome
-pub record Runs (name : List ℕ) (answer : Status) (old new : Seen) : Type 0 where
-  pub outcome : Result RunEnd RunFault
+-- the command, by its outcome: it ends as the run of the script does; that run is masked; the outcome has its cause; and where no
+-- count rose, a script that is read to its end, or a program that halts, is done
+pub record Runs (name : List ℕ) (answer : Status) (last : Option TriplexState) (old new : Seen) : Type 0 where
+  pub outcome : Result RunEnd ProgramFault
   pub answer_is : answer ≡ run_status outcome
-  -- a program that halts writes what one processor writes
-  pub halts : (file input : List ℕ) (n k value : ℕ) → old.desk.held name ≡ Some file → old.input.left ≡ Some input → IsAccepted file → IsTicks (first_line input) n → Halts (image_of file) (cycle_limit n) k value → Ends (Program Halted) (halt_transcript (image_of file) k value) outcome old.console.taken new.console.taken old.report.taken new.report.taken
-  -- what is not built is answered as such
-  pub stops : (file input : List ℕ) (n k : ℕ) → old.desk.held name ≡ Some file → old.input.left ≡ Some input → IsAccepted file → IsTicks (first_line input) n → Stops (image_of file) (cycle_limit n) k → Ends (Program Unbuilt) (stop_transcript (image_of file) k) outcome old.console.taken new.console.taken old.report.taken new.report.taken
-  pub other_line : (file input : List ℕ) → old.desk.held name ≡ Some file → old.input.left ≡ Some input → IsAccepted file → ((n : ℕ) → ¬ IsTicks (first_line input) n) → Ends (Program Unbuilt) [] outcome old.console.taken new.console.taken old.report.taken new.report.taken
-  -- another file is refused
-  pub refused : (file : List ℕ) (fault : ElfFault) → old.desk.held name ≡ Some file → IsRefused file fault → Ends (Refused fault) (for_outlet Report (elf_line fault)) outcome old.console.taken new.console.taken old.report.taken new.report.taken
-  pub too_big : (file : List ℕ) → old.desk.held name ≡ Some file → FILE_LIMIT < length file → Ends LargeFile (for_outlet Report too_big_line) outcome old.console.taken new.console.taken old.report.taken new.report.taken
-  -- no other end comes elsewhere
-  pub only : (file input : List ℕ) → old.desk.held name ≡ Some file → old.input.left ≡ Some input → ComesOnly file input outcome
-  -- what is taken of the input
-  pub takes : (input : List ℕ) → old.input.left ≡ Some input → Takes input outcome new.input.left
-  -- an outcome has its cause
-  pub cause : RunCause name outcome old new
+  pub told : (file input : List ℕ) → old.desk.held name ≡ Some file → old.input.left ≡ Some input → RunsFile file input outcome last (streams_of old) (streams_of new)
+  pub masked : (file : List ℕ) → IsAccepted file → ScriptsAreMasked (image_of file)
+  pub cause : RunCause name outcome last old new
+  pub complete : (file input : List ℕ) (run : ScriptRun) (left : Option (List ℕ)) → old.desk.held name ≡ Some file → old.input.left ≡ Some input → IsAccepted file → RunsInput (first_triplex (image_of file)) input run left →
+      IsWholeEnd (end_of run.end) → IsUndisturbed name old new → (answer ≡ Done) ⊎ (answer ≡ Memory)

@@ -6,8 +6,8 @@ use Rattle.s2_text.specs.LineTables.{forms, IsLineOf}
 use Rattle.s2_script.specs.ScriptLines.{script_rows}
 use Rattle.s2_run.specs.declared.limits.TheConstants.{INPUT_LIMIT}
 use Rattle.s2_run.specs.InputLines.{InputLine, lines_of, size_of}
-use Rattle.s2_run.specs.declared.check.Verdict.{Verdict}
-use Rattle.s2_run.specs.declared.check.Verdict.TheVariants.{Passed, Bad, TooLong}
+use Rattle.s2_run.specs.declared.verdict.Verdict.{Verdict}
+use Rattle.s2_run.specs.declared.verdict.Verdict.TheVariants.{Passed, Bad, TooLong}
 
 -- the set of the lines of a script: those of the table, comments and empty lines
 abbrev pub IsScriptLine : List ℕ → Type 0

@@ -3,7 +3,6 @@ use Rattle.std.specs.Prelude.{ℕ, ◌≡◌, ◌<◌, ◌⊎◌, List, length, 
 use Rattle.std.specs.declared.option.Option.{Option}
 use Rattle.s2_io.specs.Counts.{Rose}
 use Rattle.s2_io.specs.Sinks.{appended}
-use Rattle.s2_run.specs.Transcript.{Outlet, Written, Untouched}
 
 -- a desk: the bytes that it tells of each name, how many calls for a name failed, and how many found a file too big
 pub record DeskSeen : Type 0 where
@@ -41,14 +40,17 @@ sink_seen taken faults empty_takes = record { taken = taken; faults = faults; em
 abbrev pub seen : DeskSeen → SourceSeen → SinkSeen → SinkSeen → Seen
 seen desk input console report = record { desk = desk; input = input; console = console; report = report }
 
--- the console and the report have taken this transcript, beyond what they had
-abbrev pub Wrote : List (Outlet × ℕ) → Seen → Seen → Type 0
-Wrote transcript old new = Written transcript old.console.taken new.console.taken old.report.taken new.report.taken
+-- what is left of the input, and what the console and the report have taken
+pub record Streams : Type 0 where
+  pub left : Option (List ℕ)
+  pub console : Option (List ℕ)
+  pub report : Option (List ℕ)
 
--- nothing was written, and nothing taken of the input
-pub record DidNothing (old new : Seen) : Type 0 where
-  pub written : Untouched old.console.taken new.console.taken old.report.taken new.report.taken
-  pub left_is : new.input.left ≡ old.input.left
+abbrev pub streams : Option (List ℕ) → Option (List ℕ) → Option (List ℕ) → Streams
+streams left console report = record { left = left; console = console; report = report }
+
+abbrev pub streams_of : Seen → Streams
+streams_of objects = streams objects.input.left objects.console.taken objects.report.taken
 
 -- a count of a sink rose
 abbrev pub SinkRose : SinkSeen → SinkSeen → Type 0

@@ -6,7 +6,7 @@ use Rattle.s2_io.specs.Counts.{Rose}
 use Rattle.s2_run.specs.declared.output.Cut.{Cut}
 
 -- the part of a piece that went: all of it, or the front before the cut
-abbrev pub sent : {T : Type 0} → Result T Cut → List ℕ → List ℕ
+abbrev pub sent : {T A : Type 0} → Result T Cut → List A → List A
 sent (Ok x) piece = piece
 sent (Err cut) piece = take cut.taken piece
 

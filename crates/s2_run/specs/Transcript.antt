@@ -1,7 +1,5 @@
 -- The transcript of a run: what it writes, in order, each byte for the console or for the report.
-use Rattle.std.specs.Prelude.{ℕ, ◌≡◌, List, [], ◌∷◌}
-use Rattle.std.specs.declared.option.Option.{Option}
-use Rattle.s2_io.specs.Sinks.{appended}
+use Rattle.std.specs.Prelude.{ℕ, List, [], ◌∷◌}
 
 -- where a byte goes
 pub data Outlet : Type 0 where
@@ -30,13 +28,3 @@ console_of (x ∷ xs) = if_console x.0 x.1 (console_of xs)
 abbrev pub report_of : List (Outlet × ℕ) → List ℕ
 report_of [] = []
 report_of (x ∷ xs) = if_report x.0 x.1 (report_of xs)
-
--- the console and the report have taken this transcript, beyond what each had before
-pub record Written (transcript : List (Outlet × ℕ)) (console console' report report' : Option (List ℕ)) : Type 0 where
-  pub console_took : console' ≡ appended console (console_of transcript)
-  pub report_took : report' ≡ appended report (report_of transcript)
-
--- they have taken nothing
-pub record Untouched (console console' report report' : Option (List ℕ)) : Type 0 where
-  pub console_same : console' ≡ console
-  pub report_same : report' ≡ report

@@ -10,20 +10,10 @@ use crate::limits::INPUT_LIMIT;
 use crate::lines::{LineRead, read_line};
 use crate::output::{StreamFault, put_line};
 use crate::report::verdict;
+use crate::verdict::Verdict;
 use s2_io::{Failed, Sink, Source};
 use s2_script::read_entry;
 use s2_text::Lines;
-
-/// What a check of a script comes to. Lines are numbered from 1, and so are columns.
-#[derive(Debug, Clone, Copy, PartialEq, Eq)]
-pub enum Verdict {
-    /// Each line is one of a script.
-    Passed,
-    /// The line is the first that is not, from this column on.
-    Bad { line: u64, column: u32 },
-    /// The input has too many bytes: the first of them that is too many stands in the line.
-    TooLong { line: u64 },
-}
 
 /// The verdict on the lines of an input.
 fn check_lines<S: Source>(input: &mut S) -> Result<Verdict, Failed>
@@ -33,10 +23,11 @@ fn check_lines<S: Source>(input: &mut S) -> Result<Verdict, Failed>
     ensures failed { OnErr result (Rose (S.faults input.old) (S.faults input.new)) }
 {
     let mut held = Lines::new();
+    let mut ended = false;
     let mut taken = 0u64;
     let mut lines = 0u64;
     loop {
-        let size = match read_line(input, INPUT_LIMIT - taken, &mut held) {
+        let size = match read_line(input, INPUT_LIMIT - taken, &mut held, &mut ended) {
             Err(Failed) => return Err(Failed),
             Ok(LineRead::End) => return Ok(Verdict::Passed),
             Ok(LineRead::TooLong) => return Ok(Verdict::TooLong { line: lines + 1 }),

@@ -1,14 +1,14 @@
-//! The execution of a program on the flat machine, with its console bytes.
+//! Cycles of a program on the single machine, with its console bytes.
 
-ghost use Rattle.std.specs.Prelude.{◌≡◌, ◌<◌, ◌≤◌, None, IfOk, IfErr, OnOk, length};
+ghost use Rattle.std.specs.Prelude.{◌≡◌, ◌<◌, None, IfOk, IfErr, OnOk, length};
 ghost use Rattle.s2_machine.specs.MachineRun.{bytes_of};
 ghost use Rattle.s2_io.specs.Sinks.{appended};
 ghost use Rattle.s2_run.specs.SentPieces.{sent, SinkCause};
 ghost use Rattle.s2_run.specs.Execution.{run_within};
 
-use crate::flat::{CycleAnswer, FlatMachine};
 use crate::output::{Cut, put};
 use s2_io::Sink;
+use s2_single::Single;
 
 /// Writes the console byte of a cycle, if there is one, and counts it.
 fn emit<C: Sink>(console: &mut C, out: Option<u8>) -> Result<u64, Cut>
@@ -28,13 +28,8 @@ fn emit<C: Sink>(console: &mut C, out: Option<u8>) -> Result<u64, Cut>
     }
 }
 
-/// Runs at most `limit` cycles, to a halt or to a cycle that is not built, and counts the bytes that
-/// went to the console.
-pub fn run_cycles<C: Sink>(
-    machine: &mut FlatMachine,
-    limit: u64,
-    console: &mut C,
-) -> Result<u64, Cut>
+/// Runs at most `limit` cycles, to a halt, and counts the bytes that went to the console.
+pub fn run_cycles<C: Sink>(machine: &mut Single, limit: u64, console: &mut C) -> Result<u64, Cut>
     requires { machine.old.halt ≡ None }
     ensures bytes { C.taken console.new
         ≡ appended (C.taken console.old) (sent result (run_within machine.old limit).bytes) }
@@ -46,11 +41,8 @@ pub fn run_cycles<C: Sink>(
 {
     let mut written = 0u64;
     for _ in 0..limit {
-        let out = match machine.cycle() {
-            CycleAnswer::NotBuilt => return Ok(written),
-            CycleAnswer::Run(out) => out,
-        };
-        match emit(console, out) {
+        let effect = machine.cycle();
+        match emit(console, effect.out) {
             Ok(n) => written += n,
             Err(_) => {
                 return Err(Cut {

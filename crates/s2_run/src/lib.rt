@@ -2,21 +2,29 @@
 #![tactic(auto)]
 
 mod check;
+mod closing;
 mod cycles;
 mod dispatch;
-mod flat;
+mod fault;
+mod laws;
 mod limits;
 mod lines;
+mod load;
 mod loading;
 mod output;
+mod replay;
 mod report;
 mod run;
-mod script;
+mod script_lines;
+mod single;
 mod status;
+mod stepping;
+mod verdict;
 mod words;
 
 pub use dispatch::serve;
-pub use limits::{FILE_LIMIT, FIRST_REFRESH, INPUT_LIMIT, TICK_LIMIT, WORKLOADS};
+pub use laws::{inputs_have_one_run, replays_give_the_same, scripts_are_masked};
+pub use limits::{FILE_LIMIT, INPUT_LIMIT, TICK_LIMIT};
 pub use status::Status;
 
 #[cfg(test)]

@@ -8,10 +8,3 @@ pub const INPUT_LIMIT: u64 = 268_435_456;
 
 /// The most ticks of a run.
 pub const TICK_LIMIT: u64 = 1_099_511_627_776;
-
-/// How many workloads there are; they are numbered from 1.
-pub const WORKLOADS: u64 = 1000;
-
-/// The number, from 0, of a processor's first firing that a refresh takes: so many cycles are run at most
-/// today.
-pub const FIRST_REFRESH: u64 = 254;

@@ -1,6 +1,6 @@
 //! The lines of an input, read a byte at a time.
 
-ghost use Rattle.std.specs.Prelude.{◌≡◌, ◌<◌, ◌≤◌, ◌^◌, ℕ, List, Some, IfOk, OnErr};
+ghost use Rattle.std.specs.Prelude.{◌≡◌, ◌<◌, ◌≤◌, ◌^◌, ℕ, List, [], Some, true, IfOk, OnOk, OnErr};
 ghost use Rattle.s2_io.specs.Counts.{Rose};
 ghost use Rattle.s2_run.specs.NextLine.{ReadsNext, FitsRoom};
 
@@ -20,20 +20,32 @@ pub enum LineRead {
 }
 
 /// Reads the next line of an input into `line`, one byte at a time. At most `room` bytes and one more are
-/// read: where the line has more than `room`, it is too long.
-pub fn read_line<S: Source>(input: &mut S, room: u64, line: &mut Lines) -> Result<LineRead, Failed>
+/// read: where the line has more than `room`, it is too long. `ended` tells whether the input has told its
+/// end; after that it is not read again.
+pub fn read_line<S: Source>(
+    input: &mut S,
+    room: u64,
+    line: &mut Lines,
+    ended: &mut bool,
+) -> Result<LineRead, Failed>
     requires { room < 2 ^ 32 }
-    ensures told { (s : List ℕ) → S.left input.old ≡ Some s
+    ensures told { (s : List ℕ) → S.left input.old ≡ Some s → (ended.old ≡ true → s ≡ [])
         → ReadsNext s room result line.new (S.left input.new) }
+    ensures ended { (s : List ℕ) → S.left input.old ≡ Some s → (ended.old ≡ true → s ≡ [])
+        → OnOk result (ended.new ≡ true → S.left input.new ≡ Some []) }
     ensures size { IfOk result (FitsRoom room) }
     ensures faults_stay { S.faults input.old ≤ S.faults input.new }
     ensures failed { OnErr result (Rose (S.faults input.old) (S.faults input.new)) }
 {
     line.clear();
+    if *ended {
+        return Ok(LineRead::End);
+    }
     for size in 0..room + 1 {
         match next_byte(input) {
             Err(Failed) => return Err(Failed),
             Ok(None) => {
+                *ended = true;
                 if size == 0 {
                     return Ok(LineRead::End);
                 }

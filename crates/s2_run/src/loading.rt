@@ -2,7 +2,7 @@
 
 ghost use Rattle.std.specs.Prelude.{◌≡◌, ◌≤◌, ℕ, List, Some, length};
 ghost use Rattle.s2_run.specs.declared.limits.TheConstants.{FILE_LIMIT};
-ghost use Rattle.s2_run.specs.RunParts.{LoadsFile, LoadCause};
+ghost use Rattle.s2_run.specs.LoadedFiles.{LoadsFile, LoadCause};
 
 use crate::limits::FILE_LIMIT;
 use s2_elf::{ElfFail, ElfFault, Image, read_elf};

@@ -6,9 +6,11 @@ ghost use Rattle.s2_io.specs.Sources.{dropped};
 ghost use Rattle.s2_io.specs.Sinks.{appended};
 ghost use Rattle.s2_text.specs.declared.lines.TheConstants.{LINE_BYTES};
 ghost use Rattle.s2_run.specs.ReportText.{line_with};
+ghost use Rattle.s2_run.specs.RunTranscript.{note_lines};
 ghost use Rattle.s2_run.specs.SentPieces.{sent, SinkCause, next_of, byte_count};
 
 use s2_io::{Failed, Sink, Source};
+use s2_journal::{Note, put_note};
 use s2_text::{put_word, start};
 
 /// A piece was cut: so many of its bytes went.
@@ -96,6 +98,35 @@ fn put_two_lines<K: Sink>(sink: &mut K, first: &[u8], second: &[u8]) -> Result<(
     }
 }
 
+/// Writes three texts, each with its line feed.
+#[tactic(auto, using(crate::proofs::Pieces::pieces))]
+pub fn put_three_lines<K: Sink>(
+    sink: &mut K,
+    first: &[u8],
+    second: &[u8],
+    third: &[u8],
+) -> Result<(), Cut>
+    requires first { length first.now < LINE_BYTES }
+    requires second { length second.now < LINE_BYTES }
+    requires third { length third.now < LINE_BYTES }
+    ensures bytes { K.taken sink.new
+        ≡ appended (K.taken sink.old) (sent result (line_with first.now ++ (line_with second.now ++ line_with third.now))) }
+    ensures cut { IfErr result (λ e. e.taken < length (line_with first.now ++ (line_with second.now ++ line_with third.now))) }
+    ensures cause { SinkCause result (K.faults sink.old) (K.faults sink.new)
+        (K.empty_takes sink.old) (K.empty_takes sink.new) }
+{
+    match put_line(sink, first) {
+        Ok(()) => {}
+        Err(cut) => return Err(cut),
+    }
+    match put_two_lines(sink, second, third) {
+        Ok(()) => Ok(()),
+        Err(cut) => Err(Cut {
+            taken: first.len() + 1 + cut.taken,
+        }),
+    }
+}
+
 /// Writes four texts, each with its line feed.
 #[tactic(auto, using(crate::proofs::Pieces::pieces))]
 pub fn put_four_lines<K: Sink>(
@@ -111,6 +142,8 @@ pub fn put_four_lines<K: Sink>(
     requires fourth { length fourth.now < LINE_BYTES }
     ensures bytes { K.taken sink.new
         ≡ appended (K.taken sink.old) (sent result ((line_with first.now ++ line_with second.now) ++ (line_with third.now ++ line_with fourth.now))) }
+    ensures cut { IfErr result (λ e. e.taken
+        < length ((line_with first.now ++ line_with second.now) ++ (line_with third.now ++ line_with fourth.now))) }
     ensures cause { SinkCause result (K.faults sink.old) (K.faults sink.new)
         (K.empty_takes sink.old) (K.empty_takes sink.new) }
 {
@@ -124,4 +157,29 @@ pub fn put_four_lines<K: Sink>(
             taken: first.len() + second.len() + 2 + cut.taken,
         }),
     }
+}
+
+/// Writes the lines of notes, each as one piece.
+#[tactic(auto, using(crate::proofs::NoteLines::notes))]
+pub fn put_notes<K: Sink>(sink: &mut K, notes: &[Note]) -> Result<(), Cut>
+    requires { length notes.now ≤ 12 }
+    ensures bytes { K.taken sink.new ≡ appended (K.taken sink.old) (sent result (note_lines notes.now)) }
+    ensures cut { IfErr result (λ e. e.taken < length (note_lines notes.now)) }
+    ensures small { IfErr result (λ e. e.taken < 2048) }
+    ensures cause { SinkCause result (K.faults sink.old) (K.faults sink.new)
+        (K.empty_takes sink.old) (K.empty_takes sink.new) }
+{
+    let mut done = 0usize;
+    for note in notes {
+        let line = put_note(note);
+        match put_line(sink, line.as_slice()) {
+            Ok(()) => done += line.len() + 1,
+            Err(cut) => {
+                return Err(Cut {
+                    taken: done + cut.taken,
+                });
+            }
+        }
+    }
+    Ok(())
 }

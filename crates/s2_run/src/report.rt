@@ -1,27 +1,20 @@
-//! The lines of a report, each without its line feed.
+//! The lines of a refusal and of a check, each without its line feed.
 
 ghost use Rattle.std.specs.Prelude.{◌≡◌, ◌<◌, ◌≤◌, ◌+◌, ◌++◌, ◌∷◌, codes, length};
 ghost use Rattle.s2_run.specs.RefusalText.{counted_text, refusal_text};
-ghost use Rattle.s2_run.specs.ReportText.{halt_text, verdict_text};
+ghost use Rattle.s2_run.specs.ReportText.{verdict_text};
 
-use crate::check::Verdict;
+use crate::verdict::Verdict;
 use s2_elf::ElfFault;
-use s2_text::{Text, and_dec, and_hex, put_word, start};
+use s2_text::{Text, and_dec, put_word, start};
 
 /// A word of at most 20 bytes, a space and a decimal number.
-pub fn counted(word: &[u8], n: u64) -> Text
+fn counted(word: &[u8], n: u64) -> Text
     requires { length word.now ≤ 20 }
     ensures text { result.items ≡ counted_text word.now n }
     ensures size { length result.items ≤ 41 }
 {
     and_dec(start(word), n)
-}
-
-/// The end of a run that halted.
-pub fn halted(value: u32) -> Text
-    ensures { result.items ≡ halt_text value }
-{
-    and_hex(start(b"end halt"), value, 8)
 }
 
 /// The text of a refusal.

@@ -4,20 +4,25 @@ ghost use Rattle.std.specs.Prelude.{◌≡◌};
 ghost use Rattle.s2_run.specs.Statuses.{number_of};
 
 use s2_elf::ElfFault;
+use s2_journal::Reason;
 
 /// How a command ended.
 ///
 /// The numbers are the exit statuses of the program (`docs/FORMATS.md`).
 #[derive(Debug, Clone, Copy, PartialEq, Eq)]
 pub enum Status {
-    /// `run`: the program halted. `check`: each line of the input is one of a script.
+    /// `run` and `load`: the program halted, or the script was run to its end. `single`: the input is a
+    /// report, and was read to its end. `check`: each line of the input is one of a script.
     Done,
     /// The words ask for nothing that is offered.
     Usage,
     /// The file is refused, for the first condition that is false.
     Elf(ElfFault),
-    /// A line of the input, from 1, is the first outside the grammar, from this column on, from 1.
+    /// A line of the input, from 1, is the first outside the grammar, from this column on, from 1. A report
+    /// that ends too early is bad at column 1 of the line after its last.
     BadLine { line: u64, column: u32 },
+    /// A step of this line of the script, from 1, is not lawful, and for this reason.
+    Outside { line: u64, reason: Reason },
     /// The file or the input could not be read. It comes only where the desk's count of faults for
     /// the file's name or the input's count of faults rose.
     ReadFault,
@@ -30,10 +35,6 @@ pub enum Status {
     TooLong { line: u64 },
     /// Memory was refused, before the input was read and before anything was written.
     Memory,
-    /// What was asked for is not built: the command (line 0), the first line of the script (line 1), or a
-    /// cycle that the program comes to. A program that does not halt within the ticks that are run is
-    /// answered so too (line 1).
-    NotBuilt { line: u64 },
 }
 
 impl Status {
@@ -46,12 +47,12 @@ impl Status {
             Status::Usage => 2,
             Status::Elf(_) => 3,
             Status::BadLine { line: _, column: _ } => 4,
+            Status::Outside { line: _, reason: _ } => 5,
             Status::ReadFault => 6,
             Status::WriteFault => 7,
             Status::TooBig { limit: _ } => 8,
             Status::TooLong { line: _ } => 9,
             Status::Memory => 10,
-            Status::NotBuilt { line: _ } => 11,
         }
     }
 }

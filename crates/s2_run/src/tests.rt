@@ -1,8 +1,12 @@
 //! The worked runs, over objects in memory.
 
+mod scripts;
+mod workloads;
+
 use crate::{Status, serve};
 use s2_elf::ElfFault;
 use s2_io::{MemDesk, MemSink, MemSource, QuietDesk, QuietSink, QuietSource};
+use s2_plant::Plant;
 use std::process::Abort;
 use std::test::Fail;
 
@@ -62,6 +66,21 @@ static DIVISION: [u8; 396] = [
     0x00, 0x00, 0x00, 0x00, 0x00, 0x00, 0x00, 0x01, 0x00, 0x00, 0x00, 0x00,
 ];
 
+/// A program that polls CONIN and writes each key that it reads to CONOUT, for ever.
+#[rattlefmt::skip]
+static ECHO: [u8; 120] = [
+    0x7F, 0x45, 0x4C, 0x46, 0x01, 0x02, 0x01, 0x00, 0x00, 0x00, 0x00, 0x00,
+    0x00, 0x00, 0x00, 0x00, 0x00, 0x02, 0x00, 0x08, 0x00, 0x00, 0x00, 0x01,
+    0x80, 0x01, 0x00, 0x00, 0x00, 0x00, 0x00, 0x34, 0x00, 0x00, 0x00, 0x00,
+    0x00, 0x00, 0x00, 0x00, 0x00, 0x34, 0x00, 0x20, 0x00, 0x01, 0x00, 0x00,
+    0x00, 0x00, 0x00, 0x00, 0x00, 0x00, 0x00, 0x01, 0x00, 0x00, 0x00, 0x54,
+    0x80, 0x01, 0x00, 0x00, 0x80, 0x01, 0x00, 0x00, 0x00, 0x00, 0x00, 0x24,
+    0x00, 0x00, 0x00, 0x24, 0x00, 0x00, 0x00, 0x07, 0x00, 0x00, 0x00, 0x04,
+    0x3C, 0x08, 0xBF, 0x00, 0x8D, 0x09, 0x00, 0x04, 0x00, 0x00, 0x00, 0x00,
+    0x31, 0x2A, 0x01, 0x00, 0x15, 0x40, 0xFF, 0xFC, 0x00, 0x00, 0x00, 0x00,
+    0xAD, 0x09, 0x00, 0x00, 0x08, 0x00, 0x40, 0x01, 0x00, 0x00, 0x00, 0x00,
+];
+
 /// A run, and what it must give.
 #[derive(Clone, Copy)]
 struct Row<'a> {
@@ -92,15 +111,15 @@ impl<'a> Row<'a> {
             console_fails: &[],
             report_piece: 7,
             report_fails: &[],
-            status: Status::NotBuilt { line: 1 },
+            status: Status::Done,
             console: b"",
             report: b"",
         }
     }
 }
 
-/// Runs a row and compares.
-fn expect(rt: &(impl Abort + AllocGlobal), row: &Row) -> Result<(), Fail> {
+/// Runs a row and compares; the machine that is left, if one is.
+fn ran(rt: &(impl Abort + AllocGlobal), row: &Row) -> Result<Option<Plant>, Fail> {
     let alloc = rt.alloc();
     let mut words = Vec::new(alloc);
     for word in row.words {
@@ -110,7 +129,8 @@ fn expect(rt: &(impl Abort + AllocGlobal), row: &Row) -> Result<(), Fail> {
     let mut input = MemSource::new(alloc, row.script, 5, row.input_fails)?;
     let mut console = MemSink::new(alloc, 64, 64, row.console_fails)?;
     assert!(rt; 0 < row.report_piece);
-    let mut report = MemSink::new(alloc, 256, row.report_piece, row.report_fails)?;
+    let mut report = MemSink::new(alloc, 512, row.report_piece, row.report_fails)?;
+    let mut last = None;
     let status = serve(
         alloc,
         words.as_slice(),
@@ -118,11 +138,26 @@ fn expect(rt: &(impl Abort + AllocGlobal), row: &Row) -> Result<(), Fail> {
         &mut input,
         &mut console,
         &mut report,
+        &mut last,
     );
     let name = row.name;
     assert_eq!(rt; status, row.status, "status of {name}");
     assert_eq!(rt; console.taken(), row.console, "console of {name}");
     assert_eq!(rt; report.taken(), row.report, "report of {name}");
+    Ok(last)
+}
+
+/// Runs a row and compares; the machine that must be left.
+fn served(rt: &(impl Abort + AllocGlobal), row: &Row) -> Result<Plant, Fail> {
+    match ran(rt, row)? {
+        Some(machine) => Ok(machine),
+        None => Err(Fail::from("no machine is left")),
+    }
+}
+
+/// Runs a row and compares.
+fn expect(rt: &(impl Abort + AllocGlobal), row: &Row) -> Result<(), Fail> {
+    let _ = ran(rt, row)?;
     Ok(())
 }
 
@@ -164,6 +199,7 @@ fn hello_writes_the_same_over_objects_that_never_fail(rt: HostRuntime) -> Result
         &mut input,
         &mut console,
         &mut report,
+        &mut None,
     );
     assert_eq!(rt; status, Status::Done);
     assert_eq!(rt; console.taken(), b"hi\n".as_slice());
@@ -258,40 +294,6 @@ fn a_file_of_exactly_the_limit_is_judged(rt: HostRuntime) -> Result<(), Fail> {
         ..Row::hello("a file of exactly the limit", b"t 7 2000\n")
     };
     expect(&rt, &row)
-}
-
-#[test]
-fn what_is_not_built_is_refused(rt: HostRuntime) -> Result<(), Fail> {
-    for script in [
-        b"".as_slice(),
-        b"\n",
-        b"t 7 0\n",
-        b"t 7 08\n",
-        b"t 7 +8\n",
-        b"t 3 8\n",
-        b"t 7 8 \n",
-        b"t 7 1099511627777\n",
-    ] {
-        expect(&rt, &Row::hello("a line that is not built", script))?;
-    }
-    let no_halt = Row {
-        console: b"hi\n",
-        ..Row::hello("no halt within the ticks", b"t 7 7\n")
-    };
-    expect(&rt, &no_halt)?;
-    for words in [
-        ["single", "hello"].as_slice(),
-        &["load", "1"],
-        &["load", "1000"],
-    ] {
-        let row = Row {
-            words,
-            status: Status::NotBuilt { line: 0 },
-            ..Row::hello("a command that is not built", b"t 7 2000\n")
-        };
-        expect(&rt, &row)?;
-    }
-    Ok(())
 }
 
 #[test]
@@ -398,6 +400,161 @@ fn a_comment_has_at_most_128_bytes(rt: HostRuntime) -> Result<(), Fail> {
     expect(&rt, &checked(script.as_slice(), bad, b"bad 1 129\n"))
 }
 
+/// `single hello` on the given report, with nothing that fails.
+fn replayed<'a>(report_read: &'a [u8], status: Status, report: &'a [u8]) -> Row<'a> {
+    Row {
+        words: &["single", "hello"],
+        status,
+        console: b"hi\n",
+        report,
+        ..Row::hello("a replay", report_read)
+    }
+}
+
+#[test]
+fn a_report_is_replayed_to_its_runs(rt: HostRuntime) -> Result<(), Fail> {
+    let halted: &[u8] = b"runs 8\nbytes 3\nend halt 00000000\n";
+    for report_read in [
+        HELLO_REPORT,
+        b"runs 9\nticks 9\nbytes 4\nend script\n",
+        b"d 8 tick\nruns 1000\nticks 1000\nbytes 3\nend halt 00000000",
+    ] {
+        expect(&rt, &replayed(report_read, Status::Done, halted))?;
+    }
+    let stopped = Row {
+        console: b"hi",
+        ..replayed(
+            b"runs 5\nticks 5\nbytes 2\nend script\n",
+            Status::Done,
+            b"runs 5\nbytes 2\nend report\n",
+        )
+    };
+    expect(&rt, &stopped)?;
+    let key = Row {
+        file: &ECHO,
+        console: b"A",
+        ..replayed(
+            b"d 1024 key 41\nruns 1032\nticks 1041\nbytes 1\nend script\n",
+            Status::Done,
+            b"runs 1032\nbytes 1\nend report\n",
+        )
+    };
+    expect(&rt, &key)
+}
+
+#[test]
+fn a_report_is_bad_where_it_goes_wrong(rt: HostRuntime) -> Result<(), Fail> {
+    for (report_read, line, column, report) in [
+        (
+            b"runs 8\n".as_slice(),
+            2u64,
+            1u32,
+            b"runs 8\nbytes 3\nend bad 2 1\n".as_slice(),
+        ),
+        (b"runs 8\nwrong\n", 2, 1, b"runs 8\nbytes 3\nend bad 2 1\n"),
+        (
+            b"d 9 tick\nd 8 tick\n",
+            2,
+            3,
+            b"runs 8\nbytes 3\nend bad 2 3\n",
+        ),
+        (
+            b"d 9 key 41\nruns 8\n",
+            2,
+            6,
+            b"runs 8\nbytes 3\nend bad 2 6\n",
+        ),
+    ] {
+        let status = Status::BadLine { line, column };
+        expect(&rt, &replayed(report_read, status, report))?;
+    }
+    let empty = Row {
+        console: b"",
+        ..replayed(
+            b"",
+            Status::BadLine { line: 1, column: 1 },
+            b"runs 0\nbytes 0\nend bad 1 1\n",
+        )
+    };
+    expect(&rt, &empty)
+}
+
+#[test]
+fn a_fault_ends_a_replay_at_once(rt: HostRuntime) -> Result<(), Fail> {
+    let second_write = Row {
+        console_fails: &[2],
+        console: b"h",
+        ..replayed(HELLO_REPORT, Status::WriteFault, b"")
+    };
+    expect(&rt, &second_write)?;
+    let second_line = Row {
+        report_piece: 64,
+        report_fails: &[2],
+        ..replayed(HELLO_REPORT, Status::WriteFault, b"runs 8\n")
+    };
+    expect(&rt, &second_line)?;
+    // the eighth read is that of the first byte of the second line
+    let second_read = Row {
+        input_fails: &[8],
+        ..replayed(HELLO_REPORT, Status::ReadFault, b"")
+    };
+    expect(&rt, &second_read)
+}
+
+#[test]
+fn an_input_that_has_told_its_end_is_not_read_again(rt: HostRuntime) -> Result<(), Fail> {
+    // 40 bytes without the last line feed: the next read tells the end
+    let open_report: &[u8] = b"runs 8\nticks 8\nbytes 3\nend halt 00000000";
+    let end_read = Row {
+        input_fails: &[41],
+        ..replayed(open_report, Status::ReadFault, b"")
+    };
+    expect(&rt, &end_read)?;
+    let after_end = Row {
+        input_fails: &[42],
+        ..replayed(
+            open_report,
+            Status::Done,
+            b"runs 8\nbytes 3\nend halt 00000000\n",
+        )
+    };
+    expect(&rt, &after_end)?;
+    let checked_end = Row {
+        input_fails: &[7],
+        ..checked(b"t 7 5", Status::Done, b"ok\n")
+    };
+    expect(&rt, &checked_end)
+}
+
+#[test]
+fn a_replay_is_the_same_over_objects_that_never_fail(rt: HostRuntime) -> Result<(), Fail> {
+    let alloc = rt.alloc();
+    let mut words = Vec::new(alloc);
+    for word in ["single", "hello"] {
+        words.push(String::from_str(alloc, word)?)?;
+    }
+    let mut desk = QuietDesk::new(alloc, "hello", &HELLO)?;
+    let mut input = QuietSource::new(alloc, HELLO_REPORT, 5)?;
+    let mut console = QuietSink::new(alloc, 64, 64)?;
+    let mut report = QuietSink::new(alloc, 256, 7)?;
+    let status = serve(
+        alloc,
+        words.as_slice(),
+        &mut desk,
+        &mut input,
+        &mut console,
+        &mut report,
+        &mut None,
+    );
+    assert_eq!(rt; status, Status::Done);
+    assert_eq!(rt; console.taken(), b"hi\n".as_slice());
+    assert_eq!(rt;
+        report.taken(),
+        b"runs 8\nbytes 3\nend halt 00000000\n".as_slice()
+    );
+    Ok(())
+}
+
 #[test]
 fn a_file_above_the_limit_is_too_big(rt: HostRuntime) -> Result<(), Fail> {
     let file = vec![in rt.alloc(); 0u8; 4_194_305]?;
@@ -414,5 +571,4 @@ fn a_file_above_the_limit_is_too_big(rt: HostRuntime) -> Result<(), Fail> {
 fn a_status_has_its_number(rt: HostRuntime) {
     assert_eq!(rt; Status::Done.number(), 0);
     assert_eq!(rt; Status::Usage.number(), 2);
-    assert_eq!(rt; Status::NotBuilt { line: 0 }.number(), 11);
 }

@@ -3,7 +3,7 @@
 ghost use Rattle.std.specs.Prelude.{◌≡◌, ℕ, IfSome, IfNone, map, string_bytes};
 ghost use Rattle.s2_run.specs.CommandWords.{IsWorkload, words_of, IsOffered, IsUsage, request_of};
 
-use crate::limits::WORKLOADS;
+use s2_gen::WORKLOADS;
 use s2_text::read_dec;
 
 /// What a command line asks for.
@@ -16,16 +16,16 @@ pub enum Command<'a> {
     /// `check`: a script is checked.
     Check,
     /// `load N`: a workload is run.
-    Load(u64),
+    Load(u32),
 }
 
 /// The number of a workload, where the word is one.
-fn workload(word: &str) -> Option<u64>
+fn workload(word: &str) -> Option<u32>
     ensures some { IfSome result (λ n. IsWorkload word.now n) }
     ensures none { IfNone result ((n : ℕ) → IsWorkload word.now n → ⊥) }
 {
-    match read_dec(word.as_bytes(), WORKLOADS) {
-        Some(n) => { if n >= 1 { Some(n) } else { None } }
+    match read_dec(word.as_bytes(), WORKLOADS as u64) {
+        Some(n) => { if n >= 1 { Some(n as u32) } else { None } }
         None => None,
     }
 }

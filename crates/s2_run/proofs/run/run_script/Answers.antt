@@ -1,28 +1,14 @@
-use Rattle.std.proofs.Common.{◌≡◌, ℕ, List, ◌∙◌, subst}
-use Rattle.std.specs.Prelude.{Ok, Err, None}
-use Rattle.s2_run.specs.Script.{first_line, IsTicks}
-use Rattle.s2_run.specs.SeenObjects.{source_seen}
-use Rattle.s2_run.specs.declared.output.StreamFault.TheVariants.{Write}
-use Rattle.s2_run.specs.declared.run.RunEnd.TheVariants.{Program}
-use Rattle.s2_run.specs.declared.run.RunFault.TheVariants.{Stream}
-use Rattle.s2_run.proofs.FirstLine.{takes_whole}
-use Rattle.s2_run.proofs.RunEnds.{script_runs}
+use Rattle.std.proofs.Common.{inr}
+use Rattle.s2_run.proofs.ScriptRunEnds.{lines_end, run_done, run_cut_off}
 use Rattle.s2_run.proofs.run.run_script.Goals as goal
 
-pub returns-in-Ok-run_ticks-clause-runs : goal.returns-in-Ok-run_ticks-clause-runs
-returns-in-Ok-run_ticks-clause-runs g c = λ s h.
-    let line_is : c.as_slice.result.now ≡ first_line s = c.as_slice.ensures.value ∙ c.in-Ok.ensures.line s h in
-    let read : IsTicks (first_line s) c.in-Some.ticks = subst (λ (l : List ℕ). IsTicks l c.in-Some.ticks) line_is c.in-Some.ensures.ticks in
-    script_runs c.args.machine.now s c.in-Some.ticks (Ok (Program c.in-Ok-run_ticks.end)) _ _ _ _ read c.in-Ok-run_ticks.ensures.ends
+pub returns-in-Err-clause-told : goal.returns-in-Err-clause-told
+returns-in-Err-clause-told g c = λ s h. lines_end c.args.plant.now s c.in-Err.fault _ _ _ _ (c.in-Err.ensures.told s h)
 
-pub returns-in-Err-run_ticks-clause-runs : goal.returns-in-Err-run_ticks-clause-runs
-returns-in-Err-run_ticks-clause-runs g c = λ s h.
-    let line_is : c.as_slice.result.now ≡ first_line s = c.as_slice.ensures.value ∙ c.in-Ok.ensures.line s h in
-    let read : IsTicks (first_line s) c.in-Some.ticks = subst (λ (l : List ℕ). IsTicks l c.in-Some.ticks) line_is c.in-Some.ensures.ticks in
-    script_runs c.args.machine.now s c.in-Some.ticks (Err (Stream Write)) _ _ _ _ read c.in-Err-run_ticks.ensures.ends
+pub returns-in-Ok-put_end_lines-clause-told : goal.returns-in-Ok-put_end_lines-clause-told
+returns-in-Ok-put_end_lines-clause-told g c = λ s h.
+    run_done c.args.plant.now s c.in-Ok.finish.end c.in-Ok.finish.written _ _ _ _ _ _ c.runs.result c.ticks.result (c.in-Ok.ensures.told s h) c.runs.ensures.reference c.ticks.ensures.ticks c.in-Ok-put_end_lines.ensures.bytes
 
-pub returns-in-Err-run_ticks-clause-takes : goal.returns-in-Err-run_ticks-clause-takes
-returns-in-Err-run_ticks-clause-takes g c = λ s h. takes_whole s _ (c.in-Ok.ensures.taken s h)
-
-pub returns-in-Err-run_ticks-clause-cause : goal.returns-in-Err-run_ticks-clause-cause
-returns-in-Err-run_ticks-clause-cause g c = λ name desk desk'. c.in-Err-run_ticks.ensures.cause name desk desk' (source_seen None 0) (source_seen None 0)
+pub returns-in-Err-put_end_lines-clause-told : goal.returns-in-Err-put_end_lines-clause-told
+returns-in-Err-put_end_lines-clause-told g c = λ s h.
+    inr (run_cut_off c.args.plant.now s c.in-Ok.finish.end c.in-Ok.finish.written _ _ _ _ _ _ c.runs.result c.ticks.result c.in-Err-put_end_lines.field-0.taken (c.in-Ok.ensures.told s h) c.runs.ensures.reference c.ticks.ensures.ticks c.in-Err-put_end_lines.ensures.cut c.in-Err-put_end_lines.ensures.bytes)
