@@ -7,9 +7,9 @@ ghost use Rattle.s2_machine.specs.WriteBack.{after_step};
 ghost use Rattle.s2_core.specs.Working.{unless_asked};
 
 use crate::instruction_rows::step;
-use crate::local_work::{ask_of, read, write};
-use crate::write_back::write_back;
-use s2_base::LOCAL_WORDS;
+use crate::local_work::{ask_of, load_request, read, store_request, store_word, write};
+use crate::write_back::{follow, load, write_back};
+use s2_base::{LOCAL_WORDS, Place};
 use s2_cpu::Cpu;
 use s2_machine::{Ask, Step};
 use s2_ports::Reply;
@@ -29,6 +29,7 @@ pub fn ask<S: Store>(cpu: &Cpu, store: &S) -> Ask
 }
 
 /// A step on the processor and the local list.
+#[inline(always)]
 fn apply<S: Store>(cpu: &mut Cpu, store: &mut S, step: Step)
     requires step { IsSound step }
     requires words { length (S.words store.old) ≡ LOCAL_WORDS }
@@ -79,6 +80,7 @@ pub fn finish<S: Store>(cpu: &mut Cpu, store: &mut S, reply: Reply)
 /// nothing. It fetches and decodes once.
 ///
 /// The store has `LOCAL_WORDS` words.
+#[inline(always)]
 pub fn work<S: Store>(cpu: &mut Cpu, store: &mut S) -> Ask
     requires { length (S.words store.old) ≡ LOCAL_WORDS }
     ensures ask { result ≡ ask_of cpu.old (S.words store.old) }
@@ -92,12 +94,42 @@ pub fn work<S: Store>(cpu: &mut Cpu, store: &mut S) -> Ask
     ensures rest { S.rest store.new ≡ S.rest store.old }
 {
     let step = step(cpu, store);
-    let asked = ask_of(cpu, step);
-    match asked {
-        Ask::Local => {
-            apply(cpu, store, step);
-            Ask::Local
+    match step {
+        Step::Load {
+            op,
+            reg,
+            byte,
+            place: Place::Local(i) | Place::Boot(i),
+            ..
+        } => load(cpu, op, reg, byte, store.word(i)),
+        Step::Load {
+            op,
+            reg,
+            byte,
+            place: Place::Nowhere,
+            ..
+        } => load(cpu, op, reg, byte, 0),
+        Step::Load { address, .. } => return Ask::Outside(load_request(cpu, address)),
+        Step::Store {
+            word,
+            mask,
+            place: Place::Local(i),
+            ..
+        } => {
+            store_word(store, i, word, mask);
+            follow(cpu);
         }
-        Ask::Outside(request) => Ask::Outside(request),
+        Step::Store {
+            place: Place::Boot(_) | Place::Nowhere,
+            ..
+        } => follow(cpu),
+        Step::Store {
+            word,
+            mask,
+            address,
+            ..
+        } => return Ask::Outside(store_request(cpu, address, word, mask)),
+        _ => write_back(cpu, step, 0),
     }
+    Ask::Local
 }

@@ -11,6 +11,7 @@ use s2_cpu::{Access, Cpu, Exc};
 use s2_store::Store;
 
 /// The word of an instruction at a physical address.
+#[inline(always)]
 fn fetch_at<S: Store>(store: &S, pa: u32) -> Result<u32, Exc>
     requires { length (S.words store.now) ≡ LOCAL_WORDS }
     ensures value { result ≡ fetch_at_place (S.words store.now) (place_at pa) }
@@ -23,6 +24,7 @@ fn fetch_at<S: Store>(store: &S, pa: u32) -> Result<u32, Exc>
 }
 
 /// The word that pc names, or the exception of its fetch.
+#[inline(always)]
 pub fn fetch<S: Store>(cpu: &Cpu, store: &S) -> Result<u32, Exc>
     requires { length (S.words store.now) ≡ LOCAL_WORDS }
     ensures value { result ≡ fetch_outcome cpu.now (S.words store.now) }

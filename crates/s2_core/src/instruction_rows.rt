@@ -62,6 +62,7 @@ fn reserved(cpu: &Cpu, word: u32) -> Step
 }
 
 /// What an instruction does that was fetched.
+#[inline(always)]
 fn execute(cpu: &Cpu, instr: Instr) -> Step
     requires { IsProper instr }
     ensures step { result ≡ step_of_instruction cpu.now instr }
@@ -95,6 +96,7 @@ fn execute(cpu: &Cpu, instr: Instr) -> Step
 }
 
 /// What a cycle does whose fetch gave this.
+#[inline(always)]
 fn execute_fetched(cpu: &Cpu, word: Result<u32, Exc>) -> Step
     requires { IfErr word IsException }
     ensures step { result ≡ step_of_fetch cpu.now word }
@@ -107,6 +109,7 @@ fn execute_fetched(cpu: &Cpu, word: Result<u32, Exc>) -> Step
 }
 
 /// Whether an enabled interrupt is up.
+#[inline(always)]
 fn interrupted(cpu: &Cpu) -> bool
     ensures { result ≡ is_interrupted cpu.now.cp0 cpu.now.lines }
 {
@@ -114,6 +117,7 @@ fn interrupted(cpu: &Cpu) -> bool
 }
 
 /// What the next cycle does.
+#[inline(always)]
 pub fn step<S: Store>(cpu: &Cpu, store: &S) -> Step
     requires { length (S.words store.now) ≡ LOCAL_WORDS }
     ensures step { result ≡ step_of cpu.now (S.words store.now) }

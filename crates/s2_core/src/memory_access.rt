@@ -14,6 +14,7 @@ use s2_decode::OpM;
 use s2_machine::Step;
 
 /// Whether a row loads or stores.
+#[inline(always)]
 fn access_of(op: OpM) -> Access
     ensures { result ≡ access_of op }
 {
@@ -24,6 +25,7 @@ fn access_of(op: OpM) -> Access
 }
 
 /// Whether an address is one that a row can access.
+#[inline(always)]
 fn is_aligned(op: OpM, va: u32) -> bool
     ensures { result ≡ is_aligned op va }
 {
@@ -36,6 +38,7 @@ fn is_aligned(op: OpM, va: u32) -> bool
 
 /// Whether a place does not serve a row: no store to the boot store, no access to nothing, and to a device by
 /// LW and SW alone.
+#[inline(always)]
 fn refuses(place: Place, op: OpM) -> bool
     ensures { result ≡ refuses place op }
 {
@@ -48,6 +51,7 @@ fn refuses(place: Place, op: OpM) -> bool
 }
 
 /// Byte `byte`, below 4, of a word.
+#[inline(always)]
 fn byte_of(word: u32, byte: u8) -> u32
     requires { byte < 4 }
     ensures { result ≡ byte_at word byte }
@@ -56,6 +60,7 @@ fn byte_of(word: u32, byte: u8) -> u32
 }
 
 /// The half word at byte 0 or 2 of a word.
+#[inline(always)]
 fn half_of(word: u32, byte: u8) -> u32
     ensures { result ≡ half_at_byte word byte }
 {
@@ -68,6 +73,7 @@ fn half_of(word: u32, byte: u8) -> u32
 
 /// What a load makes of a word, of which the address names the byte `byte`, below 4, over the old word of its
 /// register.
+#[inline(always)]
 pub fn loaded_value(op: OpM, byte: u8, old: u32, word: u32) -> u32
     requires { byte < 4 }
     ensures { result ≡ loaded_value op byte old word }
@@ -84,6 +90,7 @@ pub fn loaded_value(op: OpM, byte: u8, old: u32, word: u32) -> u32
 }
 
 /// The old word of LWL and LWR: where a load of the register is pending, the word of that load.
+#[inline(always)]
 pub fn merge_base(cpu: &Cpu, reg: u8) -> u32
     requires { reg < 32 }
     ensures { result ≡ merge_base cpu.now reg }
@@ -96,6 +103,7 @@ pub fn merge_base(cpu: &Cpu, reg: u8) -> u32
 }
 
 /// The bytes that a store stores, in their places, and 0 elsewhere.
+#[inline(always)]
 fn stored_word(op: OpM, byte: u8, t: u32) -> u32
     requires { byte < 4 }
     ensures { result ≡ stored_word op byte t }
@@ -110,6 +118,7 @@ fn stored_word(op: OpM, byte: u8, t: u32) -> u32
 }
 
 /// The low half of a word, at byte 0 or 2.
+#[inline(always)]
 fn half_in_place(byte: u8, t: u32) -> u32
     ensures { result ≡ stored_word OpM.Sh byte t }
 {
@@ -121,6 +130,7 @@ fn half_in_place(byte: u8, t: u32) -> u32
 }
 
 /// The mask of a store's bytes: bit 3 stands for the byte at the lowest address.
+#[inline(always)]
 fn stored_mask(op: OpM, byte: u8) -> u8
     requires { byte < 4 }
     ensures mask { result ≡ stored_mask op byte }
@@ -153,6 +163,7 @@ fn isolated(cpu: &Cpu, op: OpM, rt: u8, byte: u8) -> Step
 }
 
 /// A load or store at a place.
+#[inline(always)]
 fn at_place(cpu: &Cpu, op: OpM, rt: u8, byte: u8, address: u32, place: Place) -> Step
     requires rt { rt < 32 }
     requires byte { byte < 4 }
@@ -182,6 +193,7 @@ fn at_place(cpu: &Cpu, op: OpM, rt: u8, byte: u8, address: u32, place: Place) ->
 }
 
 /// The place of a physical address, whose index is within its list.
+#[inline(always)]
 fn placed(pa: u32) -> Place
     ensures place { result ≡ place_at pa }
     ensures within { IsPlaced result }
@@ -197,6 +209,7 @@ fn placed(pa: u32) -> Place
 }
 
 /// A load or store at a physical address.
+#[inline(always)]
 fn at_address(cpu: &Cpu, op: OpM, rt: u8, byte: u8, pa: u32) -> Step
     requires rt { rt < 32 }
     requires byte { byte < 4 }
@@ -211,6 +224,7 @@ fn at_address(cpu: &Cpu, op: OpM, rt: u8, byte: u8, pa: u32) -> Step
 }
 
 /// A load or store at a virtual address.
+#[inline(always)]
 fn at_virtual(cpu: &Cpu, op: OpM, rt: u8, va: u32) -> Step
     requires { rt < 32 }
     ensures step { result ≡ access_step cpu.now op rt va }
@@ -226,6 +240,7 @@ fn at_virtual(cpu: &Cpu, op: OpM, rt: u8, va: u32) -> Step
 }
 
 /// The row of a load or store.
+#[inline(always)]
 pub fn access_memory(cpu: &Cpu, op: OpM, rt: u8, base: u8, off: u16) -> Step
     requires rt { rt < 32 }
     requires base { base < 32 }

@@ -13,6 +13,7 @@ use s2_machine::Step;
 use s2_tlb::{TLB_ENTRIES, Tlb};
 
 /// The cycle counts.
+#[inline(always)]
 fn count(cpu: &mut Cpu)
     ensures { cpu.new ≡ after_count cpu.old }
 {
@@ -29,6 +30,7 @@ fn raise(cpu: &mut Cpu, exc: Exc)
 }
 
 /// The pending load is written, and the cycle counts.
+#[inline(always)]
 fn settle(cpu: &mut Cpu)
     ensures { cpu.new ≡ row_base cpu.old }
 {
@@ -37,7 +39,8 @@ fn settle(cpu: &mut Cpu)
 }
 
 /// And the next instruction follows.
-fn follow(cpu: &mut Cpu)
+#[inline(always)]
+pub fn follow(cpu: &mut Cpu)
     ensures { cpu.new ≡ at_next_instruction cpu.old }
 {
     settle(cpu);
@@ -47,6 +50,7 @@ fn follow(cpu: &mut Cpu)
 }
 
 /// A register is written, after the pending load.
+#[inline(always)]
 fn set(cpu: &mut Cpu, reg: u8, value: u32)
     requires { reg < 32 }
     ensures { cpu.new ≡ after_set cpu.old reg value }
@@ -56,6 +60,7 @@ fn set(cpu: &mut Cpu, reg: u8, value: u32)
 }
 
 /// HI and LO are written.
+#[inline(always)]
 fn set_hi_lo(cpu: &mut Cpu, hi: u32, lo: u32)
     ensures { cpu.new ≡ after_set_hi_lo cpu.old hi lo }
 {
@@ -65,6 +70,7 @@ fn set_hi_lo(cpu: &mut Cpu, hi: u32, lo: u32)
 }
 
 /// A branch or a jump.
+#[inline(always)]
 fn jump(cpu: &mut Cpu, target: Option<u32>, link: u8)
     requires { link < 32 }
     ensures { cpu.new ≡ after_jump cpu.old target link }
@@ -78,6 +84,7 @@ fn jump(cpu: &mut Cpu, target: Option<u32>, link: u8)
 }
 
 /// A word is pending for a register.
+#[inline(always)]
 fn delay(cpu: &mut Cpu, reg: u8, value: u32)
     requires { reg < 32 }
     ensures { cpu.new ≡ after_delay cpu.old reg value }
@@ -88,7 +95,8 @@ fn delay(cpu: &mut Cpu, reg: u8, value: u32)
 }
 
 /// A load that read a word.
-fn load(cpu: &mut Cpu, op: OpM, reg: u8, byte: u8, word: u32)
+#[inline(always)]
+pub fn load(cpu: &mut Cpu, op: OpM, reg: u8, byte: u8, word: u32)
     requires reg { reg < 32 }
     requires byte { byte < 4 }
     ensures { cpu.new ≡ after_load cpu.old op reg byte word }
@@ -153,6 +161,7 @@ fn restore(cpu: &mut Cpu)
 }
 
 /// The processor after a step, of which a load read a word.
+#[inline(always)]
 pub fn write_back(cpu: &mut Cpu, step: Step, word: u32)
     requires { IsSound step }
     ensures { cpu.new ≡ after_step cpu.old step word }

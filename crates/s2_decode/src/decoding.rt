@@ -9,6 +9,7 @@ use crate::fields::{amount, function, immediate, operation, rd, rs, rt, target};
 use crate::instr::{Instr, Op3, OpB, OpD, OpI, OpM, OpS};
 
 /// A row of three registers.
+#[inline(always)]
 fn three(op: Op3, word: u32) -> Instr
     ensures { result ≡ Instr.Three op (rd_of word) (rs_of word) (rt_of word) }
 {
@@ -21,6 +22,7 @@ fn three(op: Op3, word: u32) -> Instr
 }
 
 /// A row that shifts by the amount in the word.
+#[inline(always)]
 fn shift(op: OpS, word: u32) -> Instr
     ensures { result ≡ Instr.Shift op (rd_of word) (rt_of word) (sa_of word) }
 {
@@ -33,6 +35,7 @@ fn shift(op: OpS, word: u32) -> Instr
 }
 
 /// A row that multiplies or divides.
+#[inline(always)]
 fn mul_div(op: OpD, word: u32) -> Instr
     ensures { result ≡ Instr.MulDiv op (rs_of word) (rt_of word) }
 {
@@ -44,6 +47,7 @@ fn mul_div(op: OpD, word: u32) -> Instr
 }
 
 /// A branch on two registers.
+#[inline(always)]
 fn branch(op: OpB, word: u32) -> Instr
     ensures { result ≡ Instr.Branch op (rs_of word) (rt_of word) (imm_of word) }
 {
@@ -56,6 +60,7 @@ fn branch(op: OpB, word: u32) -> Instr
 }
 
 /// A branch on one register.
+#[inline(always)]
 fn branch_on_one(op: OpB, word: u32) -> Instr
     ensures { result ≡ Instr.Branch op (rs_of word) 0 (imm_of word) }
 {
@@ -68,6 +73,7 @@ fn branch_on_one(op: OpB, word: u32) -> Instr
 }
 
 /// A row with an immediate.
+#[inline(always)]
 fn with_immediate(op: OpI, word: u32) -> Instr
     ensures { result ≡ Instr.Imm op (rt_of word) (rs_of word) (imm_of word) }
 {
@@ -80,6 +86,7 @@ fn with_immediate(op: OpI, word: u32) -> Instr
 }
 
 /// A load or store.
+#[inline(always)]
 fn memory(op: OpM, word: u32) -> Instr
     ensures { result ≡ Instr.Memory op (rt_of word) (rs_of word) (imm_of word) }
 {
@@ -92,6 +99,7 @@ fn memory(op: OpM, word: u32) -> Instr
 }
 
 /// A jump to the address in a register.
+#[inline(always)]
 fn jump_reg(word: u32) -> Instr
     ensures { result ≡ Instr.JumpReg (rs_of word) }
 {
@@ -99,6 +107,7 @@ fn jump_reg(word: u32) -> Instr
 }
 
 /// The same, with a link.
+#[inline(always)]
 fn jump_link_reg(word: u32) -> Instr
     ensures { result ≡ Instr.JumpLinkReg (rd_of word) (rs_of word) }
 {
@@ -109,6 +118,7 @@ fn jump_link_reg(word: u32) -> Instr
 }
 
 /// A move from HI, or from LO.
+#[inline(always)]
 fn move_from(hi: bool, word: u32) -> Instr
     ensures { result ≡ Instr.MoveFrom hi (rd_of word) }
 {
@@ -116,6 +126,7 @@ fn move_from(hi: bool, word: u32) -> Instr
 }
 
 /// A move to HI, or to LO.
+#[inline(always)]
 fn move_to(hi: bool, word: u32) -> Instr
     ensures { result ≡ Instr.MoveTo hi (rs_of word) }
 {
@@ -123,6 +134,7 @@ fn move_to(hi: bool, word: u32) -> Instr
 }
 
 /// A jump, with or without a link.
+#[inline(always)]
 fn jump(link: bool, word: u32) -> Instr
     ensures { result ≡ Instr.Jump link (target_of word) }
 {
@@ -133,6 +145,7 @@ fn jump(link: bool, word: u32) -> Instr
 }
 
 /// A load of the upper half of a register.
+#[inline(always)]
 fn load_upper(word: u32) -> Instr
     ensures { result ≡ Instr.Lui (rt_of word) (imm_of word) }
 {
@@ -143,6 +156,7 @@ fn load_upper(word: u32) -> Instr
 }
 
 /// A move from a register of coprocessor 0.
+#[inline(always)]
 fn move_from_control(word: u32) -> Instr
     ensures { result ≡ Instr.Mfc0 (rt_of word) (rd_of word) }
 {
@@ -153,6 +167,7 @@ fn move_from_control(word: u32) -> Instr
 }
 
 /// A move to a register of coprocessor 0.
+#[inline(always)]
 fn move_to_control(word: u32) -> Instr
     ensures { result ≡ Instr.Mtc0 (rt_of word) (rd_of word) }
 {
@@ -163,6 +178,7 @@ fn move_to_control(word: u32) -> Instr
 }
 
 /// Operation code 0, function codes below 32.
+#[inline(always)]
 fn special_low_row(word: u32) -> Instr
     ensures { result ≡ special_low word }
 {
@@ -190,6 +206,7 @@ fn special_low_row(word: u32) -> Instr
 }
 
 /// Operation code 0, function codes from 32 on.
+#[inline(always)]
 fn special_high_row(word: u32) -> Instr
     ensures { result ≡ special_high word }
 {
@@ -209,6 +226,7 @@ fn special_high_row(word: u32) -> Instr
 }
 
 /// Operation code 0, by the function code.
+#[inline(always)]
 fn special_row(word: u32) -> Instr
     ensures { result ≡ special word }
 {
@@ -220,6 +238,7 @@ fn special_row(word: u32) -> Instr
 }
 
 /// Operation code 1, by the rt field.
+#[inline(always)]
 fn regimm_row(word: u32) -> Instr
     ensures { result ≡ regimm word }
 {
@@ -259,6 +278,7 @@ fn coprocessor_row(word: u32) -> Instr
 }
 
 /// Operation codes below 32 that stand for one row.
+#[inline(always)]
 fn plain_row(word: u32) -> Instr
     ensures { result ≡ plain word }
 {
@@ -285,6 +305,7 @@ fn plain_row(word: u32) -> Instr
 }
 
 /// Operation codes from 32 on: loads and stores, those of coprocessors too.
+#[inline(always)]
 fn access_row(word: u32) -> Instr
     ensures { result ≡ access word }
 {
@@ -315,6 +336,7 @@ fn access_row(word: u32) -> Instr
 ///
 /// Fields that a row does not name are ignored. Source: the opcode bit encoding of the MIPS R2000
 /// instruction set.
+#[inline(always)]
 pub fn decode(word: u32) -> Instr
     ensures row { result ≡ decoded word }
     ensures proper { IsProper result }
