@@ -1,5 +1,5 @@
 -- The rows that compute (MIPS R2000, the computational instructions).
-use Rattle.std.specs.Prelude.{ℕ, ◌*◌, Bool, true, false, is_none, Some, None}
+use Rattle.std.specs.Prelude.{ℕ, Bool, true, false, is_none, Some, None}
 use Rattle.std.specs.declared.option.Option.{Option}
 use Rattle.s2_alu.specs.Arithmetic.{shifted, three_value, immediate_value, Pair, product_or_quotient}
 use Rattle.s2_cpu.specs.Processor.{Processor, register}

@@ -2,7 +2,7 @@
 use Rattle.std.specs.Prelude.{ℕ, ◌≡◌, ◌+◌, ◌%◌, ◌^◌, List, None}
 use Rattle.s2_cpu.specs.Processor.{Processor}
 use Rattle.s2_machine.specs.Machine.{Machine}
-use Rattle.s2_machine.specs.Cores.{Core, IsCore, core_cycle, core_cycle_by}
+use Rattle.s2_machine.specs.Cores.{Core, IsCore, core_cycle}
 use Rattle.s2_machine.specs.R2000.{r2000}
 use Rattle.s2_machine.specs.MachineRun.{RunState, core_cycles}
 use Rattle.s2_machine.specs.declared.ask.Ask.TheVariants.{Local}

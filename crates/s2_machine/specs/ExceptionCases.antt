@@ -1,7 +1,6 @@
 -- The exceptions of a cycle, in the order in which they are tested: each row is a condition and the exception
 -- that it raises, and the first that holds is taken (MIPS R2000, exception priority).
-use Rattle.std.specs.Prelude.{ℕ, ◌%◌, ◌==◌, ◌&&◌, Bool, true, false, not, List, [], ◌∷◌, ◌++◌, unwrap_or, Some, None}
-use Rattle.std.specs.declared.option.Option.{Option}
+use Rattle.std.specs.Prelude.{ℕ, ◌%◌, ◌==◌, ◌&&◌, Bool, true, false, not, List, [], ◌∷◌, ◌++◌, unwrap_or}
 use Rattle.s2_cp0.specs.ControlRegisters.{is_interrupted, is_isolated}
 use Rattle.s2_cpu.specs.Processor.{Processor}
 use Rattle.s2_cpu.specs.Exceptions.{Int, AdEL, IBE, DBE, Sys, Bp, RI, CpU, Ov, address_error}

@@ -1,6 +1,6 @@
 -- The loads and stores (MIPS R2000, the load and store instructions, big-endian). A load's register takes its
 -- word one instruction later.
-use Rattle.std.specs.Prelude.{ℕ, ◌+◌, ◌-◌, ◌*◌, ◌/◌, ◌%◌, ◌^◌, ◌==◌, ◌&&◌, Bool, true, false, not, if◌then◌else◌}
+use Rattle.std.specs.Prelude.{ℕ, ◌-◌, ◌*◌, ◌/◌, ◌%◌, ◌^◌, ◌==◌, ◌&&◌, Bool, true, false, not, if◌then◌else◌}
 use Rattle.s2_base.specs.Words.{sext8_of, sext16_of, word_sum, byte_at, merge_left_of, merge_right_of}
 use Rattle.s2_base.specs.Map.{place_at}
 use Rattle.s2_base.specs.declared.places.Place.{Place}

@@ -4,10 +4,10 @@ use Rattle.std.specs.declared.option.Option.{Option}
 use Rattle.s2_base.specs.Words.{bytes_into_of}
 use Rattle.s2_base.specs.Map.{place_at}
 use Rattle.s2_base.specs.declared.places.Place.{Place}
-use Rattle.s2_base.specs.declared.places.Place.TheVariants.{Local, Boot, Global, Device as DevicePlace, Nowhere}
+use Rattle.s2_base.specs.declared.places.Place.TheVariants.{Global, Device as DevicePlace}
 use Rattle.s2_ports.specs.declared.requests.Request.{Request}
 use Rattle.s2_ports.specs.declared.requests.Kind.{Kind}
-use Rattle.s2_ports.specs.declared.requests.Kind.TheVariants.{Load, Store, Sync}
+use Rattle.s2_ports.specs.declared.requests.Kind.TheVariants.{Load, Store}
 use Rattle.s2_device.specs.DeviceState.{Device}
 use Rattle.s2_device.specs.DeviceRegisters.{device_access, DeviceAccess}
 

@@ -1,5 +1,5 @@
 -- The rows of coprocessor 0, and which coprocessors are usable (MIPS R2000, the system control coprocessor).
-use Rattle.std.specs.Prelude.{ℕ, ◌==◌, ◌&&◌, Bool, true, false, not, Some, None}
+use Rattle.std.specs.Prelude.{ℕ, ◌==◌, ◌&&◌, Bool, false, not, Some, None}
 use Rattle.std.specs.declared.option.Option.{Option}
 use Rattle.s2_cp0.specs.ControlRegisters.{ControlRegisters, is_usable, indexed_entry, random_entry}
 use Rattle.s2_cp0.specs.ControlRegisterAccess.{control_read}

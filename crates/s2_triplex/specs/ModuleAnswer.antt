@@ -1,5 +1,5 @@
 -- The answer of a module, whatever state it is in.
-use Rattle.std.specs.Prelude.{ℕ, Bool, true, false, None, if◌then◌else◌}
+use Rattle.std.specs.Prelude.{ℕ, Bool, false, None, if◌then◌else◌}
 use Rattle.s2_ports.specs.declared.requests.Request.{Request}
 use Rattle.s2_ports.specs.declared.requests.Kind.{Kind}
 use Rattle.s2_ports.specs.declared.requests.Kind.TheVariants.{Load, Store, Sync}

@@ -1,5 +1,5 @@
 -- What the script does to one module, and how a reintegration begins and ends in it.
-use Rattle.std.specs.Prelude.{ℕ, Bool, true, false, Some, None, slice_set}
+use Rattle.std.specs.Prelude.{ℕ, true, false, Some, None, slice_set}
 use Rattle.s2_ports.specs.declared.requests.Posted.{Posted}
 use Rattle.s2_cpu.specs.Processor.{Processor}
 use Rattle.s2_saved.specs.SavedWords.{after_word_load}

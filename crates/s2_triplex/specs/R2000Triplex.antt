@@ -3,10 +3,10 @@ use Rattle.std.specs.Prelude.{ℕ, None}
 use Rattle.s2_base.specs.Words.{bytes_into_of}
 use Rattle.s2_base.specs.Map.{place_at}
 use Rattle.s2_base.specs.declared.places.Place.{Place}
-use Rattle.s2_base.specs.declared.places.Place.TheVariants.{Local, Boot, Global, Device, Nowhere}
+use Rattle.s2_base.specs.declared.places.Place.TheVariants.{Global}
 use Rattle.s2_ports.specs.declared.requests.Request.{Request}
 use Rattle.s2_ports.specs.declared.requests.Kind.{Kind}
-use Rattle.s2_ports.specs.declared.requests.Kind.TheVariants.{Load, Store, Sync}
+use Rattle.s2_ports.specs.declared.requests.Kind.TheVariants.{Load, Store}
 use Rattle.s2_clock.specs.declared.numbers.TheConstants.{FRAME}
 use Rattle.s2_duplex.specs.DuplexBoards.{BoardPair, BoardRead, valid_word, boards_read, boards_written}
 use Rattle.s2_machine.specs.R2000.{r2000}

@@ -5,7 +5,6 @@ use Rattle.std.specs.declared.result.Result.{Result}
 use Rattle.s2_ports.specs.declared.events.BoardFault.{BoardFault}
 use Rattle.s2_ports.specs.declared.events.BoardFault.TheVariants.{Dead, Flip}
 use Rattle.s2_join.specs.declared.item.Item.{Item}
-use Rattle.s2_join.specs.declared.item.Item.TheVariants.{Local, Saved}
 use Rattle.s2_join.specs.CopyOrder.{is_last_item}
 use Rattle.s2_script.specs.declared.entry.Act.{Act}
 use Rattle.s2_script.specs.declared.entry.Act.TheVariants.{Event, Poke, PokeLocal, Drive, Mute, Remove, Revive, Board}

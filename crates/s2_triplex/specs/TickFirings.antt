@@ -1,6 +1,6 @@
 -- The first part of a tick, up to the voter's verdict: the modules fire in the order 0, 1, 2, the age grows, and
 -- each member without a latch is latched where its port holds a request.
-use Rattle.std.specs.Prelude.{ℕ, ◌+◌, ◌&&◌, List, Bool, true, false, Some, None, if◌then◌else◌}
+use Rattle.std.specs.Prelude.{ℕ, ◌+◌, ◌&&◌, Bool, true, false, Some, None, if◌then◌else◌}
 use Rattle.std.specs.declared.option.Option.{Option}
 use Rattle.s2_ports.specs.declared.requests.Posted.{Posted}
 use Rattle.s2_clock.specs.ClockWatch.{is_firing, windows_after}

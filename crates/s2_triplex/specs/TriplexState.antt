@@ -1,5 +1,5 @@
 -- The triple machine as plain data.
-use Rattle.std.specs.Prelude.{ℕ, ◌==◌, not, List, [], ◌∷◌, Bool, true, false, Some, None, slice_index_or}
+use Rattle.std.specs.Prelude.{ℕ, not, List, [], ◌∷◌, Bool, true, false, None, slice_index_or}
 use Rattle.std.specs.declared.option.Option.{Option}
 use Rattle.s2_ports.specs.declared.events.Event.{Event}
 use Rattle.s2_clock.specs.ClockWatch.{fair_windows, is_tainted}

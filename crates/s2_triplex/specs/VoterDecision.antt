@@ -1,6 +1,6 @@
 -- The second part of a tick: the voter's verdict. On an agreed request the processor that is named is out, the
 -- access is performed, and the members that are left are answered.
-use Rattle.std.specs.Prelude.{ℕ, ◌==◌, ◌&&◌, ◌||◌, not, List, [], ◌∷◌, Bool, true, false, Some, None, if◌then◌else◌}
+use Rattle.std.specs.Prelude.{ℕ, ◌==◌, ◌&&◌, ◌||◌, not, List, [], Bool, true, false, Some, None}
 use Rattle.std.specs.declared.option.Option.{Option}
 use Rattle.s2_ports.specs.declared.requests.Request.{Request}
 use Rattle.s2_device.specs.DeviceState.{lines_of}
@@ -12,7 +12,7 @@ use Rattle.s2_voter.specs.Verdicts.{verdict_of}
 use Rattle.s2_machine.specs.declared.deliveries.Delivery.{Delivery}
 use Rattle.s2_machine.specs.Cores.{is_sync}
 use Rattle.s2_triplex.specs.declared.membership.Membership.{Membership}
-use Rattle.s2_triplex.specs.declared.membership.Membership.TheVariants.{In, Out, Joining}
+use Rattle.s2_triplex.specs.declared.membership.Membership.TheVariants.{Out}
 use Rattle.s2_triplex.specs.TriplexCores.{TriplexCore}
 use Rattle.s2_triplex.specs.ModuleState.{ModuleState}
 use Rattle.s2_triplex.specs.ModuleAnswer.{answered}
