@@ -37,5 +37,7 @@ def exported(crate):
     for group in re.findall(r"pub use [\w:]+::\{([^}]*)\}", text, re.S):
         names |= {it.split(" as ")[0].strip() for it in group.split(",")}
     names |= set(re.findall(r"pub use [\w:]+::(\w+);", text))
+    for module in re.findall(r"pub mod (\w+);", text):
+        text += read(f"crates/{crate}/src/{module}.rt")
     names |= set(re.findall(r"pub (?:struct|enum|trait|fn) (\w+)", text))
     return names - {""}

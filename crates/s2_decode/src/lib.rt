@@ -3,7 +3,7 @@
 
 mod decoding;
 mod encoding;
-mod fields;
+pub mod fields;
 mod instr;
 mod properness;
 #[cfg(test)]
