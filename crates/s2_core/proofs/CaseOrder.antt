@@ -72,6 +72,10 @@ step_cut p local =
 pub step_executed : (p : Processor) (local : List ℕ) → is_interrupted p.cp0 p.lines ≡ false → step_of_fetch p (fetch_outcome p local) ≡ step_of p local
 step_executed p local e = ap (λ (b : Bool). if b then Raise Int else step_of_fetch p (fetch_outcome p local)) (sym e) ∙ sym (step_cut p local)
 
+-- where one is up, it is taken
+pub step_interrupted : (p : Processor) (local : List ℕ) → is_interrupted p.cp0 p.lines ≡ true → Raise Int ≡ step_of p local
+step_interrupted p local e = ap (λ (b : Bool). if b then Raise Int else step_of_fetch p (fetch_outcome p local)) (sym e) ∙ sym (step_cut p local)
+
 -- a load or store
 isolated_or_placed : (isolated store refused : Bool) (delayed stored loaded : Step)
     → raise_or (first_that_holds (((not isolated && refused), DBE) ∷ [])) (if store then (if isolated then Proceed else stored) else (if isolated then delayed else loaded))

@@ -1,3 +1,5 @@
 pub mod CaseOrder
 pub mod ForeignUnits
 pub mod CoreFacts
+pub mod CarriedOut
+pub mod Operands

@@ -16,6 +16,8 @@ use Rattle.s2_decode.specs.Table.{decoded}
 use Rattle.s2_decode.specs.declared.instr.OpM.{OpM}
 use Rattle.s2_machine.specs.MemoryAccess.{access_of, is_aligned, refuses, loaded_value, stored_word, stored_mask, merge_base}
 use Rattle.s2_machine.specs.InstructionRows.{step_of_instruction}
+use Rattle.s2_core.specs.declared.reach.Reach.{Reach}
+use Rattle.s2_core.specs.declared.reach.Reach.TheVariants.{Refused, Isolated, At}
 use Rattle.s2_machine.specs.declared.step.Step.{Step}
 use Rattle.s2_machine.specs.declared.step.Step.TheVariants.{Raise, Proceed, Set, Delay, Load, Store}
 
@@ -66,6 +68,14 @@ abbrev pub access_step : Processor → OpM → ℕ → ℕ → Step
 access_step p op rt va =
     if is_aligned op va then access_through p op rt (va % 4) (translated p va (access_of op))
     else Raise (address_error (access_of op) va)
+
+-- the step of a load or store, by what it reaches
+abbrev pub reached_step : Processor → OpM → ℕ → ℕ → Reach → Step
+reached_step p op rt byte (Refused e) = Raise e
+reached_step p op rt byte Isolated = isolated_step p op rt byte
+reached_step p op rt byte (At address place) =
+    if is_store (access_of op) then Store (stored_word op byte (register p rt)) (stored_mask op byte) address place
+    else Load op rt byte address place
 
 -- a cycle: interrupt, fetch, instruction
 abbrev pub step_of_fetch : Processor → Result ℕ Exc → Step

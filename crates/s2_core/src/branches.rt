@@ -1,4 +1,4 @@
-//! The rows that branch and jump.
+//! The steps of the rows that branch and jump.
 
 ghost use Rattle.std.specs.Prelude.{◌≡◌, ◌<◌, ◌^◌};
 ghost use Rattle.s2_decode.specs.Properness.{IsBranchRegister};
@@ -12,10 +12,9 @@ use s2_decode::OpB;
 use s2_machine::Step;
 
 /// The register that a jump or branch with a link sets.
-const LINK: u8 = 31;
+pub const LINK: u8 = 31;
 
 /// A jump within the 256 MiB of the delay slot.
-#[inline(always)]
 pub fn jump(cpu: &Cpu, link: bool, target: u32) -> Step
     requires { target < 2 ^ 26 }
     ensures step { result ≡ jump_step cpu.now link target }
@@ -28,7 +27,6 @@ pub fn jump(cpu: &Cpu, link: bool, target: u32) -> Step
 }
 
 /// A jump to the address in a register, with the register that takes the link.
-#[inline(always)]
 pub fn jump_to_register(cpu: &Cpu, rs: u8, link: u8) -> Step
     requires rs { rs < 32 }
     requires link { link < 32 }
@@ -43,7 +41,7 @@ pub fn jump_to_register(cpu: &Cpu, rs: u8, link: u8) -> Step
 
 /// The register that a branch links, 0 for none.
 #[inline(always)]
-fn link_of(op: OpB) -> u8
+pub fn link_of(op: OpB) -> u8
     ensures link { result ≡ branch_link op }
     ensures below { result < 32 }
 {
@@ -54,7 +52,6 @@ fn link_of(op: OpB) -> u8
 }
 
 /// A branch, relative to the delay slot.
-#[inline(always)]
 pub fn branch(cpu: &Cpu, op: OpB, rs: u8, rt: u8, off: u16) -> Step
     requires rs { rs < 32 }
     requires rt { IsBranchRegister op rt }

@@ -1,4 +1,4 @@
-//! The rows that compute.
+//! The steps of the rows that compute.
 
 ghost use Rattle.std.specs.Prelude.{◌≡◌, ◌<◌, ◌*◌};
 ghost use Rattle.s2_machine.specs.Computation.{shift_step, product_step, move_from_step, move_to_step};
@@ -13,7 +13,6 @@ use s2_decode::{Instr, Op3, OpD, OpI, OpS};
 use s2_machine::Step;
 
 /// A row that sets a register, or overflows where it has no value.
-#[inline(always)]
 fn set_or_overflow(reg: u8, value: Option<u32>) -> Step
     requires { reg < 32 }
     ensures step { result ≡ set_or_overflow reg value }
@@ -26,7 +25,6 @@ fn set_or_overflow(reg: u8, value: Option<u32>) -> Step
 }
 
 /// A row of three registers.
-#[inline(always)]
 pub fn three_registers(cpu: &Cpu, op: Op3, rd: u8, rs: u8, rt: u8) -> Step
     requires rd { rd < 32 }
     requires rs { rs < 32 }
@@ -38,7 +36,6 @@ pub fn three_registers(cpu: &Cpu, op: Op3, rd: u8, rs: u8, rt: u8) -> Step
 }
 
 /// A row with an immediate.
-#[inline(always)]
 pub fn with_immediate(cpu: &Cpu, op: OpI, rt: u8, rs: u8, imm: u16) -> Step
     requires rt { rt < 32 }
     requires rs { rs < 32 }
@@ -49,7 +46,6 @@ pub fn with_immediate(cpu: &Cpu, op: OpI, rt: u8, rs: u8, imm: u16) -> Step
 }
 
 /// A shift by the amount in the word.
-#[inline(always)]
 pub fn shift_by_amount(cpu: &Cpu, op: OpS, rd: u8, rt: u8, sa: u8) -> Step
     requires rd { rd < 32 }
     requires rt { rt < 32 }
@@ -64,7 +60,6 @@ pub fn shift_by_amount(cpu: &Cpu, op: OpS, rd: u8, rt: u8, sa: u8) -> Step
 }
 
 /// LUI: the immediate in the upper half.
-#[inline(always)]
 pub fn load_upper(rt: u8, imm: u16) -> Step
     requires { rt < 32 }
     ensures step { result ≡ Step.Set rt (imm * 65536) }
@@ -77,7 +72,6 @@ pub fn load_upper(rt: u8, imm: u16) -> Step
 }
 
 /// A multiplication or a division, into HI and LO.
-#[inline(always)]
 pub fn multiply_or_divide(cpu: &Cpu, op: OpD, rs: u8, rt: u8) -> Step
     requires rs { rs < 32 }
     requires rt { rt < 32 }
@@ -89,7 +83,6 @@ pub fn multiply_or_divide(cpu: &Cpu, op: OpD, rs: u8, rt: u8) -> Step
 }
 
 /// A move from HI, or from LO.
-#[inline(always)]
 pub fn move_from(cpu: &Cpu, hi: bool, rd: u8) -> Step
     requires { rd < 32 }
     ensures step { result ≡ move_from_step cpu.now hi rd }
@@ -102,7 +95,6 @@ pub fn move_from(cpu: &Cpu, hi: bool, rd: u8) -> Step
 }
 
 /// A move to HI, or to LO; the other one stays.
-#[inline(always)]
 pub fn move_to(cpu: &Cpu, hi: bool, rs: u8) -> Step
     requires { rs < 32 }
     ensures step { result ≡ move_to_step cpu.now hi rs }

@@ -6,10 +6,11 @@ ghost use Rattle.s2_machine.specs.StepRanges.{IsSound, HasMask};
 ghost use Rattle.s2_machine.specs.WriteBack.{after_step};
 ghost use Rattle.s2_core.specs.Working.{unless_asked};
 
+use crate::execution::carry_out_cycle;
 use crate::instruction_rows::step;
-use crate::local_work::{ask_of, load_request, read, store_request, store_word, write};
-use crate::write_back::{follow, load, write_back};
-use s2_base::{LOCAL_WORDS, Place};
+use crate::local_work::ask_of;
+use crate::write_back::write_back;
+use s2_base::LOCAL_WORDS;
 use s2_cpu::Cpu;
 use s2_machine::{Ask, Step};
 use s2_ports::Reply;
@@ -20,28 +21,13 @@ use s2_store::Store;
 /// The store has `LOCAL_WORDS` words: local memory, and then the boot store. The request has the physical
 /// address of a word, a multiple of 4, and the run count before the cycle; a load asks for the whole word,
 /// and a store has its bytes in their places under the mask. Source: this project's own.
+#[inline(never)]
 pub fn ask<S: Store>(cpu: &Cpu, store: &S) -> Ask
     requires { length (S.words store.now) ≡ LOCAL_WORDS }
     ensures ask { result ≡ ask_of cpu.now (S.words store.now) }
     ensures mask { HasMask result }
 {
     ask_of(cpu, step(cpu, store))
-}
-
-/// A step on the processor and the local list.
-#[inline(always)]
-fn apply<S: Store>(cpu: &mut Cpu, store: &mut S, step: Step)
-    requires step { IsSound step }
-    requires words { length (S.words store.old) ≡ LOCAL_WORDS }
-    ensures cpu { cpu.new ≡ after_step cpu.old step (read_by (S.words store.old) step) }
-    ensures words { S.words store.new ≡ local_after (S.words store.old) step }
-    ensures size { length (S.words store.new) ≡ length (S.words store.old) }
-    ensures marks { S.marks store.new ≡ marks_after (S.marks store.old) step }
-    ensures rest { S.rest store.new ≡ S.rest store.old }
-{
-    let word = read(store, step);
-    write(store, step);
-    write_back(cpu, step, word);
 }
 
 /// Runs the next cycle, where it asks nothing of the outside.
@@ -56,8 +42,7 @@ pub fn turn<S: Store>(cpu: &mut Cpu, store: &mut S)
     ensures marks { S.marks store.new ≡ marks_after_turn cpu.old (S.words store.old) (S.marks store.old) }
     ensures rest { S.rest store.new ≡ S.rest store.old }
 {
-    let step = step(cpu, store);
-    apply(cpu, store, step);
+    let _local = work(cpu, store);
 }
 
 /// Ends the next cycle, which asked for an access, with the access's answer: the word that a load reads, and
@@ -77,7 +62,7 @@ pub fn finish<S: Store>(cpu: &mut Cpu, store: &mut S, reply: Reply)
 }
 
 /// Runs the next cycle where it asks nothing of the outside; where it asks, it gives the request and changes
-/// nothing. It fetches and decodes once.
+/// nothing. A cycle that asks is fetched and decoded twice, and one that does not once.
 ///
 /// The store has `LOCAL_WORDS` words.
 #[inline(always)]
@@ -93,43 +78,9 @@ pub fn work<S: Store>(cpu: &mut Cpu, store: &mut S) -> Ask
         ≡ unless_asked result (marks_after_turn cpu.old (S.words store.old) (S.marks store.old)) (S.marks store.old) }
     ensures rest { S.rest store.new ≡ S.rest store.old }
 {
-    let step = step(cpu, store);
-    match step {
-        Step::Load {
-            op,
-            reg,
-            byte,
-            place: Place::Local(i) | Place::Boot(i),
-            ..
-        } => load(cpu, op, reg, byte, store.word(i)),
-        Step::Load {
-            op,
-            reg,
-            byte,
-            place: Place::Nowhere,
-            ..
-        } => load(cpu, op, reg, byte, 0),
-        Step::Load { address, .. } => return Ask::Outside(load_request(cpu, address)),
-        Step::Store {
-            word,
-            mask,
-            place: Place::Local(i),
-            ..
-        } => {
-            store_word(store, i, word, mask);
-            follow(cpu);
-        }
-        Step::Store {
-            place: Place::Boot(_) | Place::Nowhere,
-            ..
-        } => follow(cpu),
-        Step::Store {
-            word,
-            mask,
-            address,
-            ..
-        } => return Ask::Outside(store_request(cpu, address, word, mask)),
-        _ => write_back(cpu, step, 0),
+    if carry_out_cycle(cpu, store) {
+        Ask::Local
+    } else {
+        ask(cpu, store)
     }
-    Ask::Local
 }

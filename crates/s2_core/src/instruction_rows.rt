@@ -62,8 +62,7 @@ fn reserved(cpu: &Cpu, word: u32) -> Step
 }
 
 /// What an instruction does that was fetched.
-#[inline(always)]
-fn execute(cpu: &Cpu, instr: Instr) -> Step
+pub fn execute(cpu: &Cpu, instr: Instr) -> Step
     requires { IsProper instr }
     ensures step { result ≡ step_of_instruction cpu.now instr }
     ensures sound { IsSound result }
@@ -96,7 +95,6 @@ fn execute(cpu: &Cpu, instr: Instr) -> Step
 }
 
 /// What a cycle does whose fetch gave this.
-#[inline(always)]
 fn execute_fetched(cpu: &Cpu, word: Result<u32, Exc>) -> Step
     requires { IfErr word IsException }
     ensures step { result ≡ step_of_fetch cpu.now word }
@@ -110,14 +108,13 @@ fn execute_fetched(cpu: &Cpu, word: Result<u32, Exc>) -> Step
 
 /// Whether an enabled interrupt is up.
 #[inline(always)]
-fn interrupted(cpu: &Cpu) -> bool
+pub fn interrupted(cpu: &Cpu) -> bool
     ensures { result ≡ is_interrupted cpu.now.cp0 cpu.now.lines }
 {
     cpu.cp0.pending(cpu.lines)
 }
 
 /// What the next cycle does.
-#[inline(always)]
 pub fn step<S: Store>(cpu: &Cpu, store: &S) -> Step
     requires { length (S.words store.now) ≡ LOCAL_WORDS }
     ensures step { result ≡ step_of cpu.now (S.words store.now) }

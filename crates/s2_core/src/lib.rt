@@ -1,21 +1,28 @@
 //! One cycle of the R2000, over any store of words.
 //!
 //! A cycle stays within its processor and local memory, or it accesses global memory or a device once. [`ask`]
-//! says which; [`turn`] runs one that stays, and [`finish`] ends one whose access was answered. [`work`] is
-//! both in one pass over the instruction.
+//! says which; [`turn`] runs one that stays, and [`finish`] ends one whose access was answered. [`work`] runs the
+//! cycle if it stays, and else says what it asks.
 //!
-//! The functions of a cycle are hinted to be built into their callers: what is decoded and what a step does then
-//! stay in registers, which makes a cycle more than twice as fast.
+//! What a cycle does is a step, a value that `instruction_rows` makes and `write_back` carries out. To make that
+//! value and take it apart again costs more than most rows do, so `execution` carries out the rows that programs
+//! use most without it (`direct_rows`, `direct_access`), by operands that are taken from the word itself. Each
+//! of these is proved to leave what its step leaves. The functions of that way are hinted to be built into their
+//! callers.
 #![tactic(auto)]
 
 mod branches;
 mod computation;
 mod cycles;
+mod direct_access;
+mod direct_rows;
+mod execution;
 mod fetch;
 mod instruction_rows;
 mod laws;
 mod local_work;
 mod memory_access;
+mod reach;
 mod system_rows;
 mod write_back;
 

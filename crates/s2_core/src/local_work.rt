@@ -1,9 +1,8 @@
-//! What a step asks of the outside, and what it reads and writes in the local list.
+//! What a step asks of the outside, and how a word of local memory is stored.
 
 ghost use Rattle.std.specs.Prelude.{◌≡◌, ◌<◌, length};
-ghost use Rattle.s2_machine.specs.Fetch.{local_word};
-ghost use Rattle.s2_machine.specs.LocalWork.{ask_at, ask_of_step, load_request, store_request, read_by, local_stored_at, marked_at, local_after, marks_after};
-ghost use Rattle.s2_machine.specs.StepRanges.{IsSound, IsPlaced, HasMask};
+ghost use Rattle.s2_machine.specs.LocalWork.{ask_at, ask_of_step, load_request, store_request, local_stored_at, marked_at};
+ghost use Rattle.s2_machine.specs.StepRanges.{IsSound, HasMask};
 
 use s2_base::{LOCAL_WORDS, Place, bytes_into};
 use s2_cpu::Cpu;
@@ -12,7 +11,6 @@ use s2_ports::{Kind, Request};
 use s2_store::Store;
 
 /// An access of global memory or a device is a request.
-#[inline(always)]
 fn ask_at(place: Place, request: Request) -> Ask
     requires { request.mask < 16 }
     ensures ask { result ≡ ask_at place request }
@@ -25,7 +23,6 @@ fn ask_at(place: Place, request: Request) -> Ask
 }
 
 /// The request of a load: the whole word.
-#[inline(always)]
 pub fn load_request(cpu: &Cpu, address: u32) -> Request
     ensures { result ≡ load_request cpu.now address }
 {
@@ -39,7 +36,6 @@ pub fn load_request(cpu: &Cpu, address: u32) -> Request
 }
 
 /// The request of a store.
-#[inline(always)]
 pub fn store_request(cpu: &Cpu, address: u32, word: u32, mask: u8) -> Request
     ensures { result ≡ store_request cpu.now address word mask }
 {
@@ -53,7 +49,6 @@ pub fn store_request(cpu: &Cpu, address: u32, word: u32, mask: u8) -> Request
 }
 
 /// What a step asks of the outside.
-#[inline(always)]
 pub fn ask_of(cpu: &Cpu, step: Step) -> Ask
     requires { IsSound step }
     ensures ask { result ≡ ask_of_step cpu.now step }
@@ -71,32 +66,6 @@ pub fn ask_of(cpu: &Cpu, step: Step) -> Ask
     }
 }
 
-/// The word of the local list at a place.
-#[inline(always)]
-fn word_at<S: Store>(store: &S, place: Place) -> u32
-    requires place { IsPlaced place }
-    requires words { length (S.words store.now) ≡ LOCAL_WORDS }
-    ensures { result ≡ local_word (S.words store.now) place }
-{
-    match place {
-        Place::Local(i) | Place::Boot(i) => store.word(i),
-        Place::Global(_) | Place::Device(_) | Place::Nowhere => 0,
-    }
-}
-
-/// The word that a step reads in the local list.
-#[inline(always)]
-pub fn read<S: Store>(store: &S, step: Step) -> u32
-    requires step { IsSound step }
-    requires words { length (S.words store.now) ≡ LOCAL_WORDS }
-    ensures { result ≡ read_by (S.words store.now) step }
-{
-    match step {
-        Step::Load { place, .. } => word_at(store, place),
-        _ => 0,
-    }
-}
-
 /// Stores the masked bytes of a word at word `i` of local memory.
 #[inline(always)]
 pub fn store_word<S: Store>(store: &mut S, i: u32, word: u32, mask: u8)
@@ -110,42 +79,4 @@ pub fn store_word<S: Store>(store: &mut S, i: u32, word: u32, mask: u8)
 {
     let old = store.word(i);
     store.set(i, bytes_into(old, word, mask));
-}
-
-/// Stores the masked bytes of a word at a place of local memory; elsewhere it does nothing.
-#[inline(always)]
-fn store_at<S: Store>(store: &mut S, place: Place, word: u32, mask: u8)
-    requires mask { mask < 16 }
-    requires place { IsPlaced place }
-    requires words { length (S.words store.old) ≡ LOCAL_WORDS }
-    ensures words { S.words store.new ≡ local_stored_at (S.words store.old) place word mask }
-    ensures size { length (S.words store.new) ≡ length (S.words store.old) }
-    ensures marks { S.marks store.new ≡ marked_at (S.marks store.old) place }
-    ensures rest { S.rest store.new ≡ S.rest store.old }
-{
-    match place {
-        Place::Local(i) => store_word(store, i, word, mask),
-        Place::Boot(_) | Place::Global(_) | Place::Device(_) | Place::Nowhere => {}
-    }
-}
-
-/// Writes what a step writes in the local list.
-#[inline(always)]
-pub fn write<S: Store>(store: &mut S, step: Step)
-    requires step { IsSound step }
-    requires words { length (S.words store.old) ≡ LOCAL_WORDS }
-    ensures words { S.words store.new ≡ local_after (S.words store.old) step }
-    ensures size { length (S.words store.new) ≡ length (S.words store.old) }
-    ensures marks { S.marks store.new ≡ marks_after (S.marks store.old) step }
-    ensures rest { S.rest store.new ≡ S.rest store.old }
-{
-    match step {
-        Step::Store {
-            word,
-            mask,
-            place,
-            ..
-        } => store_at(store, place, word, mask),
-        _ => {}
-    }
 }

@@ -1,52 +1,26 @@
-//! The loads and stores.
+//! The loads and stores: their values, and the step of a row.
 
 ghost use Rattle.std.specs.Prelude.{◌≡◌, ◌<◌};
-ghost use Rattle.s2_base.specs.Map.{place_at};
 ghost use Rattle.s2_base.specs.Words.{byte_at};
-ghost use Rattle.s2_machine.specs.MemoryAccess.{access_of, is_aligned, refuses, half_at_byte, loaded_value, merge_base, stored_word, stored_mask, effective_address};
-ghost use Rattle.s2_machine.specs.StepRanges.{IsSound, IsPlaced};
-ghost use Rattle.s2_core.specs.TestOrder.{isolated_step, placed_step, addressed_step, access_step};
+ghost use Rattle.s2_machine.specs.MemoryAccess.{access_of, half_at_byte, loaded_value, merge_base, stored_word, stored_mask, effective_address};
+ghost use Rattle.s2_machine.specs.StepRanges.{IsSound};
+ghost use Rattle.s2_core.specs.TestOrder.{isolated_step, access_step, reached_step};
+ghost use Rattle.s2_core.specs.Working.{IsReach};
 
-use s2_base::{Place, merge_left, merge_right, place, sext8, sext16};
-use s2_cp0::DBE;
-use s2_cpu::{Access, Cpu, Exc};
+use crate::reach::{Reach, effective_address, reach_virtual};
+use s2_base::{merge_left, merge_right, sext8, sext16};
+use s2_cpu::{Access, Cpu};
 use s2_decode::OpM;
 use s2_machine::Step;
 
 /// Whether a row loads or stores.
 #[inline(always)]
-fn access_of(op: OpM) -> Access
+pub fn access_of(op: OpM) -> Access
     ensures { result ≡ access_of op }
 {
     match op {
         OpM::Lb | OpM::Lh | OpM::Lwl | OpM::Lw | OpM::Lbu | OpM::Lhu | OpM::Lwr => Access::Load,
         OpM::Sb | OpM::Sh | OpM::Swl | OpM::Sw | OpM::Swr => Access::Store,
-    }
-}
-
-/// Whether an address is one that a row can access.
-#[inline(always)]
-fn is_aligned(op: OpM, va: u32) -> bool
-    ensures { result ≡ is_aligned op va }
-{
-    match op {
-        OpM::Lh | OpM::Lhu | OpM::Sh => va % 2 == 0,
-        OpM::Lw | OpM::Sw => va % 4 == 0,
-        _ => true,
-    }
-}
-
-/// Whether a place does not serve a row: no store to the boot store, no access to nothing, and to a device by
-/// LW and SW alone.
-#[inline(always)]
-fn refuses(place: Place, op: OpM) -> bool
-    ensures { result ≡ refuses place op }
-{
-    match place {
-        Place::Local(_) | Place::Global(_) => false,
-        Place::Boot(_) => access_of(op).is_store(),
-        Place::Device(_) => !matches!(op, OpM::Lw | OpM::Sw),
-        Place::Nowhere => true,
     }
 }
 
@@ -104,7 +78,7 @@ pub fn merge_base(cpu: &Cpu, reg: u8) -> u32
 
 /// The bytes that a store stores, in their places, and 0 elsewhere.
 #[inline(always)]
-fn stored_word(op: OpM, byte: u8, t: u32) -> u32
+pub fn stored_word(op: OpM, byte: u8, t: u32) -> u32
     requires { byte < 4 }
     ensures { result ≡ stored_word op byte t }
 {
@@ -131,7 +105,7 @@ fn half_in_place(byte: u8, t: u32) -> u32
 
 /// The mask of a store's bytes: bit 3 stands for the byte at the lowest address.
 #[inline(always)]
-fn stored_mask(op: OpM, byte: u8) -> u8
+pub fn stored_mask(op: OpM, byte: u8) -> u8
     requires { byte < 4 }
     ensures mask { result ≡ stored_mask op byte }
     ensures below { result < 16 }
@@ -162,91 +136,45 @@ fn isolated(cpu: &Cpu, op: OpM, rt: u8, byte: u8) -> Step
     }
 }
 
-/// A load or store at a place.
-#[inline(always)]
-fn at_place(cpu: &Cpu, op: OpM, rt: u8, byte: u8, address: u32, place: Place) -> Step
+/// The step of a row, by what it reaches.
+fn reached_step(cpu: &Cpu, op: OpM, rt: u8, byte: u8, reach: Reach) -> Step
     requires rt { rt < 32 }
     requires byte { byte < 4 }
-    requires place { IsPlaced place }
-    ensures step { result ≡ placed_step cpu.now op rt byte address place }
+    requires reach { IsReach reach }
+    ensures step { result ≡ reached_step cpu.now op rt byte reach }
     ensures sound { IsSound result }
 {
-    if refuses(place, op) {
-        return Step::Raise(Exc::plain(DBE));
-    }
-    if access_of(op).is_store() {
-        Step::Store {
-            word: stored_word(op, byte, cpu.r.get(rt)),
-            mask: stored_mask(op, byte),
-            address,
-            place,
+    match reach {
+        Reach::Refused(exc) => Step::Raise(exc),
+        Reach::Isolated => isolated(cpu, op, rt, byte),
+        Reach::At { address, place } => {
+            if access_of(op).is_store() {
+                Step::Store {
+                    word: stored_word(op, byte, cpu.r.get(rt)),
+                    mask: stored_mask(op, byte),
+                    address,
+                    place,
+                }
+            } else {
+                Step::Load {
+                    op,
+                    reg: rt,
+                    byte,
+                    address,
+                    place,
+                }
+            }
         }
-    } else {
-        Step::Load {
-            op,
-            reg: rt,
-            byte,
-            address,
-            place,
-        }
-    }
-}
-
-/// The place of a physical address, whose index is within its list.
-#[inline(always)]
-fn placed(pa: u32) -> Place
-    ensures place { result ≡ place_at pa }
-    ensures within { IsPlaced result }
-{
-    let place = place(pa);
-    match place {
-        Place::Local(_) => place,
-        Place::Boot(_) => place,
-        Place::Global(_) => place,
-        Place::Device(_) => place,
-        Place::Nowhere => place,
-    }
-}
-
-/// A load or store at a physical address.
-#[inline(always)]
-fn at_address(cpu: &Cpu, op: OpM, rt: u8, byte: u8, pa: u32) -> Step
-    requires rt { rt < 32 }
-    requires byte { byte < 4 }
-    ensures step { result ≡ addressed_step cpu.now op rt byte pa }
-    ensures sound { IsSound result }
-{
-    if cpu.cp0.is_isolated() {
-        return isolated(cpu, op, rt, byte);
-    }
-    let address = pa / 4 * 4;
-    at_place(cpu, op, rt, byte, address, placed(address))
-}
-
-/// A load or store at a virtual address.
-#[inline(always)]
-fn at_virtual(cpu: &Cpu, op: OpM, rt: u8, va: u32) -> Step
-    requires { rt < 32 }
-    ensures step { result ≡ access_step cpu.now op rt va }
-    ensures sound { IsSound result }
-{
-    if !is_aligned(op, va) {
-        return Step::Raise(Exc::address_error(access_of(op), va));
-    }
-    match cpu.translate(va, access_of(op)) {
-        Ok(pa) => at_address(cpu, op, rt, (va % 4) as u8, pa),
-        Err(exc) => Step::Raise(exc),
     }
 }
 
 /// The row of a load or store.
-#[inline(always)]
 pub fn access_memory(cpu: &Cpu, op: OpM, rt: u8, base: u8, off: u16) -> Step
     requires rt { rt < 32 }
     requires base { base < 32 }
     ensures step { result ≡ access_step cpu.now op rt (effective_address cpu.now base off) }
     ensures sound { IsSound result }
 {
-    let va = cpu.r.get(base).wrapping_add(sext16(off as u32));
-    at_virtual(cpu, op, rt, va)
+    let va = effective_address(cpu, base, off);
+    reached_step(cpu, op, rt, (va % 4) as u8, reach_virtual(cpu, op, va))
 }

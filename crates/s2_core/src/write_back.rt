@@ -1,10 +1,11 @@
 //! The processor after a step.
 
-ghost use Rattle.std.specs.Prelude.{◌≡◌, ◌<◌, IfSome};
+ghost use Rattle.std.specs.Prelude.{◌≡◌, ◌<◌, ℕ, Bool, List, IfSome};
 ghost use Rattle.s2_tlb.specs.TlbLookup.{probe_of};
 ghost use Rattle.s2_cpu.specs.Exceptions.{IsException};
 ghost use Rattle.s2_machine.specs.StepRanges.{IsSound};
 ghost use Rattle.s2_machine.specs.WriteBack.{after_count, row_base, at_next_instruction, after_raise, after_set, after_set_hi_lo, after_jump, after_delay, after_load, after_set_control, after_read_entry, after_write_entry, after_probe, after_restore, after_step};
+ghost use Rattle.s2_core.specs.Working.{IsCarriedOut};
 
 use crate::memory_access::{loaded_value, merge_base};
 use s2_cpu::{Cpu, Exc};
@@ -21,7 +22,8 @@ fn count(cpu: &mut Cpu)
 }
 
 /// An exception is taken.
-fn raise(cpu: &mut Cpu, exc: Exc)
+#[inline(never)]
+pub fn raise(cpu: &mut Cpu, exc: Exc)
     requires { IsException exc }
     ensures { cpu.new ≡ after_raise cpu.old exc }
 {
@@ -51,7 +53,7 @@ pub fn follow(cpu: &mut Cpu)
 
 /// A register is written, after the pending load.
 #[inline(always)]
-fn set(cpu: &mut Cpu, reg: u8, value: u32)
+pub fn set(cpu: &mut Cpu, reg: u8, value: u32)
     requires { reg < 32 }
     ensures { cpu.new ≡ after_set cpu.old reg value }
 {
@@ -71,7 +73,7 @@ fn set_hi_lo(cpu: &mut Cpu, hi: u32, lo: u32)
 
 /// A branch or a jump.
 #[inline(always)]
-fn jump(cpu: &mut Cpu, target: Option<u32>, link: u8)
+pub fn jump(cpu: &mut Cpu, target: Option<u32>, link: u8)
     requires { link < 32 }
     ensures { cpu.new ≡ after_jump cpu.old target link }
 {
@@ -161,7 +163,6 @@ fn restore(cpu: &mut Cpu)
 }
 
 /// The processor after a step, of which a load read a word.
-#[inline(always)]
 pub fn write_back(cpu: &mut Cpu, step: Step, word: u32)
     requires { IsSound step }
     ensures { cpu.new ≡ after_step cpu.old step word }
@@ -180,4 +181,15 @@ pub fn write_back(cpu: &mut Cpu, step: Step, word: u32)
         Step::ProbeEntry => probe_entry(cpu),
         Step::Restore => restore(cpu),
     }
+}
+
+/// An exception.
+#[inline(always)]
+pub fn raised(cpu: &mut Cpu, exc: Exc) -> bool
+    requires { IsException exc }
+    ensures { (local : List ℕ) (marks : List Bool)
+        → IsCarriedOut cpu.old local marks (Step.Raise exc) result cpu.new local marks }
+{
+    raise(cpu, exc);
+    true
 }

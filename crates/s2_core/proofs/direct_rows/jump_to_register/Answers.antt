@@ -1,0 +1,10 @@
+use Rattle.std.proofs.Common.{◌≡◌, Some, rules}
+use Rattle.s2_machine.specs.Branches.{register_jump_step}
+use Rattle.s2_machine.specs.declared.step.Step.TheVariants.{Jump}
+use Rattle.s2_core.proofs.CarriedOut.{carried}
+use Rattle.s2_core.proofs.direct_rows.jump_to_register.Goals as goal
+
+pub returns : goal.returns
+returns c = λ local marks.
+    let same : Jump (Some c.get-address.result) 0 ≡ register_jump_step c.args.cpu.now c.args.rs 0 = search rules in
+    carried c.args.cpu.now _ _ _ _ _ _ _ _ same (c.go_to.ensures local marks)

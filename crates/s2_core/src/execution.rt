@@ -1,0 +1,154 @@
+//! A cycle carried out at once, where it asks nothing of the outside; where it asks, nothing changes. Each function
+//! says whether it was carried out.
+
+ghost use Rattle.std.specs.Prelude.{◌≡◌, length, IfErr};
+ghost use Rattle.s2_cpu.specs.Exceptions.{IsException};
+ghost use Rattle.s2_decode.specs.Table.{decoded};
+ghost use Rattle.s2_machine.specs.InstructionRows.{step_of_instruction, step_of};
+ghost use Rattle.s2_machine.specs.StepRanges.{IsSound};
+ghost use Rattle.s2_core.specs.TestOrder.{step_of_fetch};
+ghost use Rattle.s2_core.specs.Working.{IsCarriedOut};
+
+use crate::direct_access::{access_memory, load_at, store_at};
+use crate::direct_rows::{
+    branch, jump, jump_to_register, load_upper, shift_by_amount, three_registers, with_immediate,
+};
+use crate::fetch::fetch;
+use crate::instruction_rows::{execute, interrupted};
+use crate::write_back::{raised, write_back};
+use s2_base::LOCAL_WORDS;
+use s2_cp0::INT;
+use s2_cpu::{Cpu, Exc};
+use s2_decode::{Instr, decode, fields};
+use s2_machine::Step;
+use s2_store::Store;
+
+/// Any step.
+fn carry_out<S: Store>(cpu: &mut Cpu, store: &mut S, step: Step) -> bool
+    requires sound { IsSound step }
+    requires words { length (S.words store.now) ≡ LOCAL_WORDS }
+    ensures done { IsCarriedOut cpu.old (S.words store.old) (S.marks store.old) step result
+        cpu.new (S.words store.new) (S.marks store.new) }
+    ensures size { length (S.words store.new) ≡ length (S.words store.old) }
+    ensures rest { S.rest store.new ≡ S.rest store.old }
+{
+    match step {
+        Step::Load {
+            op,
+            reg,
+            byte,
+            address,
+            place,
+        } => load_at(cpu, store, op, reg, byte, address, place),
+        Step::Store {
+            word,
+            mask,
+            address,
+            place,
+        } => store_at(cpu, store, word, mask, address, place),
+        _ => {
+            write_back(cpu, step, 0);
+            true
+        }
+    }
+}
+
+/// The instruction of any word, by its step.
+#[inline(never)]
+fn carry_out_step<S: Store>(cpu: &mut Cpu, store: &mut S, word: u32) -> bool
+    requires { length (S.words store.now) ≡ LOCAL_WORDS }
+    ensures done { IsCarriedOut cpu.old (S.words store.old) (S.marks store.old) (step_of_instruction cpu.old (decoded word)) result
+        cpu.new (S.words store.new) (S.marks store.new) }
+    ensures size { length (S.words store.new) ≡ length (S.words store.old) }
+    ensures rest { S.rest store.new ≡ S.rest store.old }
+{
+    let step = execute(cpu, decode(word));
+    carry_out(cpu, store, step)
+}
+
+/// The instruction of a word: directly where its row is one that programs use most.
+#[inline(always)]
+fn carry_out_row<S: Store>(cpu: &mut Cpu, store: &mut S, word: u32) -> bool
+    requires { length (S.words store.now) ≡ LOCAL_WORDS }
+    ensures done { IsCarriedOut cpu.old (S.words store.old) (S.marks store.old) (step_of_instruction cpu.old (decoded word)) result
+        cpu.new (S.words store.new) (S.marks store.new) }
+    ensures size { length (S.words store.new) ≡ length (S.words store.old) }
+    ensures rest { S.rest store.new ≡ S.rest store.old }
+{
+    match decode(word) {
+        Instr::Three { op, .. } => three_registers(
+            cpu,
+            op,
+            fields::rd(word),
+            fields::rs(word),
+            fields::rt(word),
+        ),
+        Instr::Shift { op, .. } => shift_by_amount(
+            cpu,
+            op,
+            fields::rd(word),
+            fields::rt(word),
+            fields::amount(word),
+        ),
+        Instr::Imm { op, .. } => with_immediate(
+            cpu,
+            op,
+            fields::rt(word),
+            fields::rs(word),
+            fields::immediate(word),
+        ),
+        Instr::Lui { .. } => load_upper(cpu, fields::rt(word), fields::immediate(word)),
+        Instr::Jump { link, .. } => jump(cpu, link, fields::target(word)),
+        Instr::JumpReg { .. } => jump_to_register(cpu, fields::rs(word)),
+        Instr::Branch { op, rt, .. } => branch(
+            cpu,
+            op,
+            fields::rs(word),
+            rt,
+            fields::immediate(word),
+        ),
+        Instr::Memory { op, .. } => {
+            access_memory(
+                cpu,
+                store,
+                op,
+                fields::rt(word),
+                fields::rs(word),
+                fields::immediate(word),
+            )
+        }
+        _ => carry_out_step(cpu, store, word),
+    }
+}
+
+/// What was fetched.
+#[inline(always)]
+fn carry_out_fetched<S: Store>(cpu: &mut Cpu, store: &mut S, word: Result<u32, Exc>) -> bool
+    requires fetched { IfErr word IsException }
+    requires words { length (S.words store.now) ≡ LOCAL_WORDS }
+    ensures done { IsCarriedOut cpu.old (S.words store.old) (S.marks store.old) (step_of_fetch cpu.old word) result
+        cpu.new (S.words store.new) (S.marks store.new) }
+    ensures size { length (S.words store.new) ≡ length (S.words store.old) }
+    ensures rest { S.rest store.new ≡ S.rest store.old }
+{
+    match word {
+        Ok(word) => carry_out_row(cpu, store, word),
+        Err(exc) => raised(cpu, exc),
+    }
+}
+
+/// The next cycle.
+#[inline(always)]
+pub fn carry_out_cycle<S: Store>(cpu: &mut Cpu, store: &mut S) -> bool
+    requires { length (S.words store.now) ≡ LOCAL_WORDS }
+    ensures done { IsCarriedOut cpu.old (S.words store.old) (S.marks store.old) (step_of cpu.old (S.words store.old)) result
+        cpu.new (S.words store.new) (S.marks store.new) }
+    ensures size { length (S.words store.new) ≡ length (S.words store.old) }
+    ensures rest { S.rest store.new ≡ S.rest store.old }
+{
+    if interrupted(cpu) {
+        return raised(cpu, Exc::plain(INT));
+    }
+    let word = fetch(cpu, store);
+    carry_out_fetched(cpu, store, word)
+}
