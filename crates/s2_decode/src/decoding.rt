@@ -1,12 +1,16 @@
 //! The decoder, by the groups of the instruction table: a row is a line.
 
-ghost use Rattle.std.specs.Prelude.{◌≡◌};
+ghost use Rattle.std.specs.Prelude.{◌≡◌, ◌≤◌, nat_le, if◌then◌else◌};
 ghost use Rattle.s2_decode.specs.Fields.{op_of, rs_of, rt_of, rd_of, sa_of, fn_of, imm_of, target_of};
-ghost use Rattle.s2_decode.specs.Table.{special_low, special_high, special, regimm, privileged, coprocessor, plain, access, decoded};
+ghost use Rattle.s2_decode.specs.Table.{special_high, special, regimm, privileged, coprocessor, plain, access, decoded};
 ghost use Rattle.s2_decode.specs.Properness.{IsProper};
+ghost use Rattle.s2_decode.specs.declared.decoding.TheConstants.{SPECIAL_END};
 
 use crate::fields::{amount, function, immediate, operation, rd, rs, rt, target};
 use crate::instr::{Instr, Op3, OpB, OpD, OpI, OpM, OpS};
+
+/// Where the words of operation code 0 end.
+const SPECIAL_END: u32 = 0x0400_0000;
 
 /// A row of three registers.
 #[inline(always)]
@@ -177,34 +181,6 @@ fn move_to_control(word: u32) -> Instr
     }
 }
 
-/// Operation code 0, function codes below 32.
-#[inline(always)]
-fn special_low_row(word: u32) -> Instr
-    ensures { result ≡ special_low word }
-{
-    match function(word) {
-        0 => shift(OpS::Sll, word),
-        2 => shift(OpS::Srl, word),
-        3 => shift(OpS::Sra, word),
-        4 => three(Op3::Sllv, word),
-        6 => three(Op3::Srlv, word),
-        7 => three(Op3::Srav, word),
-        8 => jump_reg(word),
-        9 => jump_link_reg(word),
-        12 => Instr::Syscall,
-        13 => Instr::Break,
-        16 => move_from(true, word),
-        17 => move_to(true, word),
-        18 => move_from(false, word),
-        19 => move_to(false, word),
-        24 => mul_div(OpD::Mult, word),
-        25 => mul_div(OpD::Multu, word),
-        26 => mul_div(OpD::Div, word),
-        27 => mul_div(OpD::Divu, word),
-        _ => Instr::Reserved(word),
-    }
-}
-
 /// Operation code 0, function codes from 32 on.
 #[inline(always)]
 fn special_high_row(word: u32) -> Instr
@@ -230,10 +206,26 @@ fn special_high_row(word: u32) -> Instr
 fn special_row(word: u32) -> Instr
     ensures { result ≡ special word }
 {
-    if function(word) < 32 {
-        special_low_row(word)
-    } else {
-        special_high_row(word)
+    match function(word) {
+        0 => shift(OpS::Sll, word),
+        2 => shift(OpS::Srl, word),
+        3 => shift(OpS::Sra, word),
+        4 => three(Op3::Sllv, word),
+        6 => three(Op3::Srlv, word),
+        7 => three(Op3::Srav, word),
+        8 => jump_reg(word),
+        9 => jump_link_reg(word),
+        12 => Instr::Syscall,
+        13 => Instr::Break,
+        16 => move_from(true, word),
+        17 => move_to(true, word),
+        18 => move_from(false, word),
+        19 => move_to(false, word),
+        24 => mul_div(OpD::Mult, word),
+        25 => mul_div(OpD::Multu, word),
+        26 => mul_div(OpD::Div, word),
+        27 => mul_div(OpD::Divu, word),
+        _ => special_high_row(word),
     }
 }
 
@@ -277,33 +269,6 @@ fn coprocessor_row(word: u32) -> Instr
     }
 }
 
-/// Operation codes below 32 that stand for one row.
-#[inline(always)]
-fn plain_row(word: u32) -> Instr
-    ensures { result ≡ plain word }
-{
-    match operation(word) {
-        2 => jump(false, word),
-        3 => jump(true, word),
-        4 => branch(OpB::Beq, word),
-        5 => branch(OpB::Bne, word),
-        6 => branch_on_one(OpB::Blez, word),
-        7 => branch_on_one(OpB::Bgtz, word),
-        8 => with_immediate(OpI::Addi, word),
-        9 => with_immediate(OpI::Addiu, word),
-        10 => with_immediate(OpI::Slti, word),
-        11 => with_immediate(OpI::Sltiu, word),
-        12 => with_immediate(OpI::Andi, word),
-        13 => with_immediate(OpI::Ori, word),
-        14 => with_immediate(OpI::Xori, word),
-        15 => load_upper(word),
-        17 => Instr::Foreign { unit: 1, word },
-        18 => Instr::Foreign { unit: 2, word },
-        19 => Instr::Foreign { unit: 3, word },
-        _ => Instr::Reserved(word),
-    }
-}
-
 /// Operation codes from 32 on: loads and stores, those of coprocessors too.
 #[inline(always)]
 fn access_row(word: u32) -> Instr
@@ -332,6 +297,46 @@ fn access_row(word: u32) -> Instr
     }
 }
 
+/// Operation codes that stand for one row.
+#[inline(always)]
+fn plain_row(word: u32) -> Instr
+    ensures { result ≡ (if nat_le 32 (op_of word) then access word else plain word) }
+{
+    match operation(word) {
+        2 => jump(false, word),
+        3 => jump(true, word),
+        4 => branch(OpB::Beq, word),
+        5 => branch(OpB::Bne, word),
+        6 => branch_on_one(OpB::Blez, word),
+        7 => branch_on_one(OpB::Bgtz, word),
+        8 => with_immediate(OpI::Addi, word),
+        9 => with_immediate(OpI::Addiu, word),
+        10 => with_immediate(OpI::Slti, word),
+        11 => with_immediate(OpI::Sltiu, word),
+        12 => with_immediate(OpI::Andi, word),
+        13 => with_immediate(OpI::Ori, word),
+        14 => with_immediate(OpI::Xori, word),
+        15 => load_upper(word),
+        17 => Instr::Foreign { unit: 1, word },
+        18 => Instr::Foreign { unit: 2, word },
+        19 => Instr::Foreign { unit: 3, word },
+        _ => access_row(word),
+    }
+}
+
+/// Operation codes from 1 on.
+#[inline(always)]
+fn coded_row(word: u32) -> Instr
+    requires { SPECIAL_END ≤ word }
+    ensures { result ≡ decoded word }
+{
+    match operation(word) {
+        1 => regimm_row(word),
+        16 => coprocessor_row(word),
+        _ => plain_row(word),
+    }
+}
+
 /// The instruction of a word: each word has one.
 ///
 /// Fields that a row does not name are ignored. Source: the opcode bit encoding of the MIPS R2000
@@ -341,11 +346,9 @@ pub fn decode(word: u32) -> Instr
     ensures row { result ≡ decoded word }
     ensures proper { IsProper result }
 {
-    match operation(word) {
-        0 => special_row(word),
-        1 => regimm_row(word),
-        16 => coprocessor_row(word),
-        2..=31 => plain_row(word),
-        _ => access_row(word),
+    if word < SPECIAL_END {
+        special_row(word)
+    } else {
+        coded_row(word)
     }
 }
