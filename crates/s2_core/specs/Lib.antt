@@ -31,5 +31,6 @@ pub use Rattle.s2_machine.specs.R2000
 pub use Rattle.s2_machine.specs.Cycle
 pub use Rattle.s2_machine.specs.MachineRun
 pub use Rattle.s2_machine.specs.CoreLaws
+pub mod Kseg0
 pub mod TestOrder
 pub mod Working

@@ -1,10 +1,9 @@
 //! The cycle, in its parts.
 
-ghost use Rattle.std.specs.Prelude.{◌≡◌, ◌≢◌, ◌<◌, length};
-ghost use Rattle.s2_machine.specs.LocalWork.{ask_of, ask_of_step, after_turn, local_after_turn, marks_after_turn, after_finish, read_by, local_after, marks_after};
-ghost use Rattle.s2_machine.specs.StepRanges.{IsSound, HasMask};
-ghost use Rattle.s2_machine.specs.WriteBack.{after_step};
-ghost use Rattle.s2_core.specs.Working.{unless_asked};
+ghost use Rattle.std.specs.Prelude.{◌≡◌, ◌≢◌, ◌<◌, length, if◌then◌else◌};
+ghost use Rattle.s2_machine.specs.LocalWork.{ask_of, after_turn, local_after_turn, marks_after_turn, after_finish};
+ghost use Rattle.s2_machine.specs.StepRanges.{HasMask};
+ghost use Rattle.s2_core.specs.Working.{unless_asked, is_local};
 
 use crate::execution::carry_out_cycle;
 use crate::instruction_rows::step;
@@ -12,7 +11,7 @@ use crate::local_work::ask_of;
 use crate::write_back::write_back;
 use s2_base::LOCAL_WORDS;
 use s2_cpu::Cpu;
-use s2_machine::{Ask, Step};
+use s2_machine::Ask;
 use s2_ports::Reply;
 use s2_store::Store;
 
@@ -30,6 +29,25 @@ pub fn ask<S: Store>(cpu: &Cpu, store: &S) -> Ask
     ask_of(cpu, step(cpu, store))
 }
 
+/// Runs the next cycle where it asks nothing of the outside, and says whether it did; where it asks, nothing
+/// changes.
+///
+/// The store has `LOCAL_WORDS` words; a word of local memory that is stored marks its page.
+#[inline(always)]
+pub fn try_turn<S: Store>(cpu: &mut Cpu, store: &mut S) -> bool
+    requires { length (S.words store.old) ≡ LOCAL_WORDS }
+    ensures local { result ≡ is_local (ask_of cpu.old (S.words store.old)) }
+    ensures cpu { cpu.new ≡ (if result then after_turn cpu.old (S.words store.old) else cpu.old) }
+    ensures words { S.words store.new
+        ≡ (if result then local_after_turn cpu.old (S.words store.old) else S.words store.old) }
+    ensures size { length (S.words store.new) ≡ length (S.words store.old) }
+    ensures marks { S.marks store.new
+        ≡ (if result then marks_after_turn cpu.old (S.words store.old) (S.marks store.old) else S.marks store.old) }
+    ensures rest { S.rest store.new ≡ S.rest store.old }
+{
+    carry_out_cycle(cpu, store)
+}
+
 /// Runs the next cycle, where it asks nothing of the outside.
 ///
 /// The store has `LOCAL_WORDS` words; a word of local memory that is stored marks its page.
@@ -42,7 +60,7 @@ pub fn turn<S: Store>(cpu: &mut Cpu, store: &mut S)
     ensures marks { S.marks store.new ≡ marks_after_turn cpu.old (S.words store.old) (S.marks store.old) }
     ensures rest { S.rest store.new ≡ S.rest store.old }
 {
-    let _local = work(cpu, store);
+    let _ran = try_turn(cpu, store);
 }
 
 /// Ends the next cycle, which asked for an access, with the access's answer: the word that a load reads, and
@@ -62,7 +80,7 @@ pub fn finish<S: Store>(cpu: &mut Cpu, store: &mut S, reply: Reply)
 }
 
 /// Runs the next cycle where it asks nothing of the outside; where it asks, it gives the request and changes
-/// nothing. A cycle that asks is fetched and decoded twice, and one that does not once.
+/// nothing.
 ///
 /// The store has `LOCAL_WORDS` words.
 #[inline(always)]
@@ -78,7 +96,7 @@ pub fn work<S: Store>(cpu: &mut Cpu, store: &mut S) -> Ask
         ≡ unless_asked result (marks_after_turn cpu.old (S.words store.old) (S.marks store.old)) (S.marks store.old) }
     ensures rest { S.rest store.new ≡ S.rest store.old }
 {
-    if carry_out_cycle(cpu, store) {
+    if try_turn(cpu, store) {
         Ask::Local
     } else {
         ask(cpu, store)

@@ -1,11 +1,13 @@
 //! The loads and stores, carried out directly where they ask nothing. Each function says whether it was.
 
-ghost use Rattle.std.specs.Prelude.{◌≡◌, ◌<◌, ℕ, Bool, List, length};
+ghost use Rattle.std.specs.Prelude.{◌≡◌, ◌<◌, ℕ, Bool, true, List, length};
 ghost use Rattle.s2_machine.specs.MemoryAccess.{effective_address};
 ghost use Rattle.s2_machine.specs.StepRanges.{IsPlaced};
+ghost use Rattle.s2_core.specs.Kseg0.{accesses_near};
 ghost use Rattle.s2_core.specs.TestOrder.{isolated_step, access_step, reached_step};
 ghost use Rattle.s2_core.specs.Working.{IsCarriedOut, IsReach};
 
+use crate::kseg0::{accesses_near, near_index};
 use crate::local_work::store_word;
 use crate::memory_access::{access_of, stored_mask, stored_word};
 use crate::reach::{Reach, effective_address, reach_virtual};
@@ -24,14 +26,14 @@ pub fn load_at<S: Store>(
     op: OpM,
     rt: u8,
     byte: u8,
-    address: u32,
     place: Place,
 ) -> bool
     requires rt { rt < 32 }
     requires byte { byte < 4 }
     requires place { IsPlaced place }
     requires words { length (S.words store.now) ≡ LOCAL_WORDS }
-    ensures done { IsCarriedOut cpu.old (S.words store.old) (S.marks store.old) (Step.Load op rt byte address place) result
+    ensures done { (address : ℕ) → IsCarriedOut cpu.old (S.words store.old) (S.marks store.old)
+        (Step.Load op rt byte address place) result
         cpu.new (S.words store.new) (S.marks store.new) }
     ensures words { S.words store.new ≡ S.words store.old }
     ensures rest { S.rest store.new ≡ S.rest store.old }
@@ -46,18 +48,12 @@ pub fn load_at<S: Store>(
 
 /// A store of the masked bytes of a word at a place, where that asks nothing.
 #[inline(always)]
-pub fn store_at<S: Store>(
-    cpu: &mut Cpu,
-    store: &mut S,
-    word: u32,
-    mask: u8,
-    address: u32,
-    place: Place,
-) -> bool
+pub fn store_at<S: Store>(cpu: &mut Cpu, store: &mut S, word: u32, mask: u8, place: Place) -> bool
     requires mask { mask < 16 }
     requires place { IsPlaced place }
     requires words { length (S.words store.now) ≡ LOCAL_WORDS }
-    ensures done { IsCarriedOut cpu.old (S.words store.old) (S.marks store.old) (Step.Store word mask address place) result
+    ensures done { (address : ℕ) → IsCarriedOut cpu.old (S.words store.old) (S.marks store.old)
+        (Step.Store word mask address place) result
         cpu.new (S.words store.new) (S.marks store.new) }
     ensures size { length (S.words store.new) ≡ length (S.words store.old) }
     ensures rest { S.rest store.new ≡ S.rest store.old }
@@ -81,14 +77,13 @@ fn access_at<S: Store>(
     op: OpM,
     rt: u8,
     byte: u8,
-    address: u32,
     place: Place,
 ) -> bool
     requires rt { rt < 32 }
     requires byte { byte < 4 }
     requires place { IsPlaced place }
     requires words { length (S.words store.now) ≡ LOCAL_WORDS }
-    ensures done { IsCarriedOut cpu.old (S.words store.old) (S.marks store.old)
+    ensures done { (address : ℕ) → IsCarriedOut cpu.old (S.words store.old) (S.marks store.old)
         (reached_step cpu.old op rt byte (Reach.At address place)) result
         cpu.new (S.words store.new) (S.marks store.new) }
     ensures size { length (S.words store.new) ≡ length (S.words store.old) }
@@ -96,13 +91,14 @@ fn access_at<S: Store>(
 {
     if access_of(op).is_store() {
         let word = stored_word(op, byte, cpu.r.get(rt));
-        store_at(cpu, store, word, stored_mask(op, byte), address, place)
+        store_at(cpu, store, word, stored_mask(op, byte), place)
     } else {
-        load_at(cpu, store, op, rt, byte, address, place)
+        load_at(cpu, store, op, rt, byte, place)
     }
 }
 
 /// A load or store of the isolated data cache.
+#[cold]
 #[inline(never)]
 fn access_isolated(cpu: &mut Cpu, op: OpM, rt: u8, byte: u8) -> bool
     requires rt { rt < 32 }
@@ -120,7 +116,7 @@ fn access_isolated(cpu: &mut Cpu, op: OpM, rt: u8, byte: u8) -> bool
 
 /// A load or store, by what it reaches.
 #[inline(always)]
-pub fn access_reached<S: Store>(
+fn access_reached<S: Store>(
     cpu: &mut Cpu,
     store: &mut S,
     op: OpM,
@@ -140,7 +136,54 @@ pub fn access_reached<S: Store>(
     match reach {
         Reach::Refused(exc) => raised(cpu, exc),
         Reach::Isolated => access_isolated(cpu, op, rt, byte),
-        Reach::At { address, place } => access_at(cpu, store, op, rt, byte, address, place),
+        Reach::At { place, .. } => access_at(cpu, store, op, rt, byte, place),
+    }
+}
+
+/// A load or store of local memory by kseg0.
+#[inline(always)]
+fn access_near<S: Store>(cpu: &mut Cpu, store: &mut S, op: OpM, rt: u8, va: u32) -> bool
+    requires near { accesses_near cpu.old op va ≡ true }
+    requires rt { rt < 32 }
+    requires words { length (S.words store.now) ≡ LOCAL_WORDS }
+    ensures done { IsCarriedOut cpu.old (S.words store.old) (S.marks store.old) (access_step cpu.old op rt va) result
+        cpu.new (S.words store.new) (S.marks store.new) }
+    ensures size { length (S.words store.new) ≡ length (S.words store.old) }
+    ensures rest { S.rest store.new ≡ S.rest store.old }
+{
+    let place = Place::Local(near_index(va));
+    access_at(cpu, store, op, rt, (va % 4) as u8, place)
+}
+
+/// A load or store, whatever it reaches.
+#[cold]
+#[inline(never)]
+fn access_anywhere<S: Store>(cpu: &mut Cpu, store: &mut S, op: OpM, rt: u8, va: u32) -> bool
+    requires rt { rt < 32 }
+    requires words { length (S.words store.now) ≡ LOCAL_WORDS }
+    ensures done { IsCarriedOut cpu.old (S.words store.old) (S.marks store.old) (access_step cpu.old op rt va) result
+        cpu.new (S.words store.new) (S.marks store.new) }
+    ensures size { length (S.words store.new) ≡ length (S.words store.old) }
+    ensures rest { S.rest store.new ≡ S.rest store.old }
+{
+    let reach = reach_virtual(cpu, op, va);
+    access_reached(cpu, store, op, rt, (va % 4) as u8, reach)
+}
+
+/// A load or store at a virtual address.
+#[inline(always)]
+fn access_virtual<S: Store>(cpu: &mut Cpu, store: &mut S, op: OpM, rt: u8, va: u32) -> bool
+    requires rt { rt < 32 }
+    requires words { length (S.words store.now) ≡ LOCAL_WORDS }
+    ensures done { IsCarriedOut cpu.old (S.words store.old) (S.marks store.old) (access_step cpu.old op rt va) result
+        cpu.new (S.words store.new) (S.marks store.new) }
+    ensures size { length (S.words store.new) ≡ length (S.words store.old) }
+    ensures rest { S.rest store.new ≡ S.rest store.old }
+{
+    if accesses_near(cpu, op, va) {
+        access_near(cpu, store, op, rt, va)
+    } else {
+        access_anywhere(cpu, store, op, rt, va)
     }
 }
 
@@ -164,6 +207,5 @@ pub fn access_memory<S: Store>(
     ensures rest { S.rest store.new ≡ S.rest store.old }
 {
     let va = effective_address(cpu, base, off);
-    let reach = reach_virtual(cpu, op, va);
-    access_reached(cpu, store, op, rt, (va % 4) as u8, reach)
+    access_virtual(cpu, store, op, rt, va)
 }

@@ -1,19 +1,16 @@
 //! The rows that most programs use most, carried out on the processor directly: they compute, branch and jump.
 //! They ask nothing, so each says that it is done.
 
-ghost use Rattle.std.specs.Prelude.{◌≡◌, ◌<◌, ◌^◌, List, ℕ, Bool, Some, None, if◌then◌else◌};
-ghost use Rattle.s2_alu.specs.Arithmetic.{is_taken};
-ghost use Rattle.s2_cpu.specs.Processor.{register};
-ghost use Rattle.s2_machine.specs.Branches.{jump_target, branch_target, branch_step};
+ghost use Rattle.std.specs.Prelude.{◌≡◌, ◌<◌, ◌^◌, List, ℕ, Bool};
+ghost use Rattle.s2_machine.specs.Branches.{branch_step};
 ghost use Rattle.s2_machine.specs.InstructionRows.{step_of_instruction};
 ghost use Rattle.s2_core.specs.TestOrder.{set_or_overflow};
 ghost use Rattle.s2_core.specs.Working.{IsCarriedOut};
 
-use crate::branches::{LINK, link_of};
+use crate::branches::{branch_target, jump_target, link_of, link_register};
 use crate::write_back;
 use crate::write_back::{raise, set};
-use s2_alu::{immediate, shift, taken, three};
-use s2_base::sext16;
+use s2_alu::{immediate, shift, three};
 use s2_cp0::OV;
 use s2_cpu::{Cpu, Exc};
 use s2_decode::{Instr, Op3, OpB, OpI, OpS};
@@ -101,38 +98,6 @@ fn go_to(cpu: &mut Cpu, target: Option<u32>, link: u8) -> bool
 {
     write_back::jump(cpu, target, link);
     true
-}
-
-/// The register that a jump links, 0 for none.
-#[inline(always)]
-fn link_register(link: bool) -> u8
-    ensures value { result ≡ (if link then 31 else 0) }
-    ensures below { result < 32 }
-{
-    if link { LINK } else { 0 }
-}
-
-/// Where a jump goes.
-#[inline(always)]
-fn jump_target(cpu: &Cpu, target: u32) -> u32
-    requires { target < 2 ^ 26 }
-    ensures { result ≡ jump_target cpu.now target }
-{
-    cpu.npc / 0x1000_0000 * 0x1000_0000 + target * 4
-}
-
-/// Where a branch goes, if it is taken.
-#[inline(always)]
-fn branch_target(cpu: &Cpu, op: OpB, rs: u8, rt: u8, off: u16) -> Option<u32>
-    requires rs { rs < 32 }
-    requires rt { rt < 32 }
-    ensures { result ≡ (if is_taken op (register cpu.now rs) (register cpu.now rt) then Some (branch_target cpu.now off) else None) }
-{
-    if taken(op, cpu.r.get(rs), cpu.r.get(rt)) {
-        Some(cpu.npc.wrapping_add(sext16(off as u32).wrapping_mul(4)))
-    } else {
-        None
-    }
 }
 
 /// A jump within the 256 MiB of the delay slot.

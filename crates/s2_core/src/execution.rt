@@ -1,12 +1,13 @@
 //! A cycle carried out at once, where it asks nothing of the outside; where it asks, nothing changes. Each function
 //! says whether it was carried out.
 
-ghost use Rattle.std.specs.Prelude.{◌≡◌, length, IfErr};
+ghost use Rattle.std.specs.Prelude.{◌≡◌, true, length, IfErr};
 ghost use Rattle.s2_cpu.specs.Exceptions.{IsException};
 ghost use Rattle.s2_decode.specs.Table.{decoded};
 ghost use Rattle.s2_machine.specs.InstructionRows.{step_of_instruction, step_of};
 ghost use Rattle.s2_machine.specs.StepRanges.{IsSound};
-ghost use Rattle.s2_core.specs.TestOrder.{step_of_fetch};
+ghost use Rattle.s2_core.specs.Kseg0.{fetches_near};
+ghost use Rattle.s2_core.specs.TestOrder.{fetch_outcome, step_of_fetch};
 ghost use Rattle.s2_core.specs.Working.{IsCarriedOut};
 
 use crate::direct_access::{access_memory, load_at, store_at};
@@ -15,6 +16,7 @@ use crate::direct_rows::{
 };
 use crate::fetch::fetch;
 use crate::instruction_rows::{execute, interrupted};
+use crate::kseg0::{fetches_near, near_index};
 use crate::write_back::{raised, write_back};
 use s2_base::LOCAL_WORDS;
 use s2_cp0::INT;
@@ -37,15 +39,15 @@ fn carry_out<S: Store>(cpu: &mut Cpu, store: &mut S, step: Step) -> bool
             op,
             reg,
             byte,
-            address,
             place,
-        } => load_at(cpu, store, op, reg, byte, address, place),
+            ..
+        } => load_at(cpu, store, op, reg, byte, place),
         Step::Store {
             word,
             mask,
-            address,
             place,
-        } => store_at(cpu, store, word, mask, address, place),
+            ..
+        } => store_at(cpu, store, word, mask, place),
         _ => {
             write_back(cpu, step, 0);
             true
@@ -54,6 +56,7 @@ fn carry_out<S: Store>(cpu: &mut Cpu, store: &mut S, step: Step) -> bool
 }
 
 /// The instruction of any word, by its step.
+#[cold]
 #[inline(never)]
 fn carry_out_step<S: Store>(cpu: &mut Cpu, store: &mut S, word: u32) -> bool
     requires { length (S.words store.now) ≡ LOCAL_WORDS }
@@ -137,6 +140,53 @@ fn carry_out_fetched<S: Store>(cpu: &mut Cpu, store: &mut S, word: Result<u32, E
     }
 }
 
+/// The next cycle, whose instruction is fetched from local memory by kseg0.
+#[inline(always)]
+fn carry_out_near<S: Store>(cpu: &mut Cpu, store: &mut S) -> bool
+    requires near { fetches_near cpu.old ≡ true }
+    requires words { length (S.words store.now) ≡ LOCAL_WORDS }
+    ensures done { IsCarriedOut cpu.old (S.words store.old) (S.marks store.old)
+        (step_of_fetch cpu.old (fetch_outcome cpu.old (S.words store.old))) result
+        cpu.new (S.words store.new) (S.marks store.new) }
+    ensures size { length (S.words store.new) ≡ length (S.words store.old) }
+    ensures rest { S.rest store.new ≡ S.rest store.old }
+{
+    let word = store.word(near_index(cpu.pc));
+    carry_out_row(cpu, store, word)
+}
+
+/// The next cycle, wherever its instruction is fetched.
+#[cold]
+#[inline(never)]
+fn carry_out_anywhere<S: Store>(cpu: &mut Cpu, store: &mut S) -> bool
+    requires { length (S.words store.now) ≡ LOCAL_WORDS }
+    ensures done { IsCarriedOut cpu.old (S.words store.old) (S.marks store.old)
+        (step_of_fetch cpu.old (fetch_outcome cpu.old (S.words store.old))) result
+        cpu.new (S.words store.new) (S.marks store.new) }
+    ensures size { length (S.words store.new) ≡ length (S.words store.old) }
+    ensures rest { S.rest store.new ≡ S.rest store.old }
+{
+    let word = fetch(cpu, store);
+    carry_out_fetched(cpu, store, word)
+}
+
+/// The next cycle where no interrupt is up.
+#[inline(always)]
+fn carry_out_instruction<S: Store>(cpu: &mut Cpu, store: &mut S) -> bool
+    requires { length (S.words store.now) ≡ LOCAL_WORDS }
+    ensures done { IsCarriedOut cpu.old (S.words store.old) (S.marks store.old)
+        (step_of_fetch cpu.old (fetch_outcome cpu.old (S.words store.old))) result
+        cpu.new (S.words store.new) (S.marks store.new) }
+    ensures size { length (S.words store.new) ≡ length (S.words store.old) }
+    ensures rest { S.rest store.new ≡ S.rest store.old }
+{
+    if fetches_near(cpu) {
+        carry_out_near(cpu, store)
+    } else {
+        carry_out_anywhere(cpu, store)
+    }
+}
+
 /// The next cycle.
 #[inline(always)]
 pub fn carry_out_cycle<S: Store>(cpu: &mut Cpu, store: &mut S) -> bool
@@ -149,6 +199,5 @@ pub fn carry_out_cycle<S: Store>(cpu: &mut Cpu, store: &mut S) -> bool
     if interrupted(cpu) {
         return raised(cpu, Exc::plain(INT));
     }
-    let word = fetch(cpu, store);
-    carry_out_fetched(cpu, store, word)
+    carry_out_instruction(cpu, store)
 }

@@ -1,6 +1,7 @@
 //! What a step asks of the outside, and how a word of local memory is stored.
 
 ghost use Rattle.std.specs.Prelude.{◌≡◌, ◌<◌, length};
+ghost use Rattle.s2_base.specs.Words.{bytes_into_of};
 ghost use Rattle.s2_machine.specs.LocalWork.{ask_at, ask_of_step, load_request, store_request, local_stored_at, marked_at};
 ghost use Rattle.s2_machine.specs.StepRanges.{IsSound, HasMask};
 
@@ -9,6 +10,9 @@ use s2_cpu::Cpu;
 use s2_machine::{Ask, Step};
 use s2_ports::{Kind, Request};
 use s2_store::Store;
+
+/// The mask of a whole word.
+const WHOLE_WORD: u8 = 15;
 
 /// An access of global memory or a device is a request.
 fn ask_at(place: Place, request: Request) -> Ask
@@ -30,7 +34,7 @@ pub fn load_request(cpu: &Cpu, address: u32) -> Request
         kind: Kind::Load,
         address,
         word: 0,
-        mask: 15,
+        mask: WHOLE_WORD,
         run: cpu.run,
     }
 }
@@ -66,6 +70,19 @@ pub fn ask_of(cpu: &Cpu, step: Step) -> Ask
     }
 }
 
+/// A word whose masked bytes come from another; where all do, it is that one.
+#[inline(always)]
+fn bytes_over(old: u32, word: u32, mask: u8) -> u32
+    requires { mask < 16 }
+    ensures { result ≡ bytes_into_of old word mask }
+{
+    if mask == WHOLE_WORD {
+        word
+    } else {
+        bytes_into(old, word, mask)
+    }
+}
+
 /// Stores the masked bytes of a word at word `i` of local memory.
 #[inline(always)]
 pub fn store_word<S: Store>(store: &mut S, i: u32, word: u32, mask: u8)
@@ -78,5 +95,5 @@ pub fn store_word<S: Store>(store: &mut S, i: u32, word: u32, mask: u8)
     ensures rest { S.rest store.new ≡ S.rest store.old }
 {
     let old = store.word(i);
-    store.set(i, bytes_into(old, word, mask));
+    store.set(i, bytes_over(old, word, mask));
 }

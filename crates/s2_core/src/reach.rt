@@ -27,7 +27,7 @@ pub enum Reach {
 
 /// Whether an address is one that a row can access.
 #[inline(always)]
-fn is_aligned(op: OpM, va: u32) -> bool
+pub fn is_aligned(op: OpM, va: u32) -> bool
     ensures { result ≡ is_aligned op va }
 {
     match op {

@@ -22,6 +22,7 @@ fn count(cpu: &mut Cpu)
 }
 
 /// An exception is taken.
+#[cold]
 #[inline(never)]
 pub fn raise(cpu: &mut Cpu, exc: Exc)
     requires { IsException exc }

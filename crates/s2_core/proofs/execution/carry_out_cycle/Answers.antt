@@ -1,8 +1,6 @@
--- The cycle's step: an interrupt, or what the fetch gave.
-use Rattle.std.proofs.Common.{ℕ, ap, sym, ◌∙◌, Result}
-use Rattle.s2_cpu.specs.declared.exceptions.Exc.{Exc}
+-- The cycle's step: an interrupt, or what the fetch gives.
+use Rattle.std.proofs.Common.{ap, sym, ◌∙◌}
 use Rattle.s2_machine.specs.declared.step.Step.TheVariants.{Raise}
-use Rattle.s2_core.specs.TestOrder.{step_of_fetch}
 use Rattle.s2_core.proofs.CaseOrder.{step_executed, step_interrupted}
 use Rattle.s2_core.proofs.CarriedOut.{carried}
 use Rattle.s2_core.proofs.execution.carry_out_cycle.Goals as goal
@@ -16,6 +14,5 @@ returns-then-interrupted-clause-done g c =
 pub returns-clause-done : goal.returns-clause-done
 returns-clause-done g c =
     carried c.args.cpu.now _ _ _ _ _ _ _ _
-    (ap (λ (fetch : Result ℕ Exc). step_of_fetch c.args.cpu.now fetch) c.fetch-word.ensures.value
-    ∙ step_executed c.args.cpu.now (g.S.Store.words c.args.store.now) (sym c.interrupted.ensures ∙ c.if-interrupted.false))
-    c.carry_out_fetched.ensures.done
+    (step_executed c.args.cpu.now (g.S.Store.words c.args.store.now) (sym c.interrupted.ensures ∙ c.if-interrupted.false))
+    c.carry_out_instruction.ensures.done
