@@ -1,31 +1,47 @@
 -- From a cycle of a machine's parts to a cycle of the machine.
-use Rattle.std.proofs.Common.{◌≡◌, ℕ, List, ◌++◌, None, sym, ap, ◌∙◌}
+use Rattle.std.proofs.Common.{◌≡◌, ◌≢◌, ℕ, true, false, List, ◌++◌, None, refl, sym, ap, ◌∙◌, arith}
 use Rattle.std.specs.declared.option.Option.{Option}
-use Rattle.s2_ports.specs.declared.requests.Request.{Request}
 use Rattle.s2_device.specs.DeviceState.{Device}
 use Rattle.s2_device.specs.declared.effect.Effect.{Effect}
 use Rattle.s2_cpu.specs.Processor.{Processor}
 use Rattle.s2_machine.specs.Machine.{Machine}
-use Rattle.s2_machine.specs.LocalWork.{ask_of}
+use Rattle.s2_machine.specs.LocalWork.{ask_of, after_turn, local_after_turn}
 use Rattle.s2_machine.specs.Cores.{Outcome, core_cycle_by}
 use Rattle.s2_machine.specs.R2000.{r2000}
 use Rattle.s2_machine.specs.Cycle.{cycle}
 use Rattle.s2_machine.specs.MachineRun.{after_cycle, after_cycle_unless, bytes_of}
 use Rattle.s2_machine.specs.declared.ask.Ask.{Ask}
-use Rattle.s2_machine.specs.declared.ask.Ask.TheVariants.{Outside}
+use Rattle.s2_machine.specs.declared.ask.Ask.TheVariants.{Local, Outside}
+use Rattle.s2_core.specs.Working.{is_local}
 use Rattle.s2_single.specs.SingleMachine.{cycle_effect, effect_by, in_run, machine_of}
 
--- a processor and a local list that did not change ask the same
-pub still_asks : (cpu cpu' : Processor) (local local' : List ℕ) (r : Request) → cpu' ≡ cpu → local' ≡ local → Outside r ≡ ask_of cpu local → ask_of cpu' local' ≡ Outside r
-still_asks cpu cpu' local local' r a b asks = ap (λ (p : Processor). ask_of p local') a ∙ (ap (λ (l : List ℕ). ask_of cpu l) b ∙ sym asks)
+-- a turn that did not run leaves a cycle that asks for an access, and is the same cycle
+asks : (ask : Ask) → false ≡ is_local ask → ask ≢ Local
+asks Local e = grind arith
+asks (Outside request) e = grind arith
 
--- a cycle is the end of what it asks
-pub asked_cycle : (cpu cpu' : Processor) (local local' global : List ℕ) (device : Device) (r : Request) → cpu' ≡ cpu → local' ≡ local → Outside r ≡ ask_of cpu local
-    → cycle (machine_of cpu local global device None) ≡ core_cycle_by r2000 (machine_of cpu' local' global device None) (Outside r)
-asked_cycle cpu cpu' local local' global device r a b asks =
-    ap (λ (x : Ask). core_cycle_by r2000 (machine_of cpu local global device None) x) (sym asks)
-    ∙ (ap (λ (p : Processor). core_cycle_by r2000 (machine_of p local global device None) (Outside r)) (sym a)
-    ∙ ap (λ (l : List ℕ). core_cycle_by r2000 (machine_of cpu' l global device None) (Outside r)) (sym b))
+pub still_asks : (cpu cpu' : Processor) (local local' : List ℕ) → false ≡ is_local (ask_of cpu local) → cpu' ≡ cpu → local' ≡ local → ask_of cpu' local' ≢ Local
+still_asks cpu cpu' local local' e a b same =
+    asks (ask_of cpu local) e (sym (ap (λ (p : Processor). ask_of p local') a ∙ ap (λ (l : List ℕ). ask_of cpu l) b) ∙ same)
+
+pub same_cycle : (cpu cpu' : Processor) (local local' global : List ℕ) (device : Device) → cpu' ≡ cpu → local' ≡ local
+    → cycle (machine_of cpu local global device None) ≡ cycle (machine_of cpu' local' global device None)
+same_cycle cpu cpu' local local' global device a b =
+    sym (ap (λ (p : Processor). cycle (machine_of p local' global device None)) a ∙ ap (λ (l : List ℕ). cycle (machine_of cpu l global device None)) b)
+
+-- a turn that ran is the whole cycle
+nothing_asked : (ask : Ask) → true ≡ is_local ask → ask ≡ Local
+nothing_asked Local e = refl
+nothing_asked (Outside request) e = grind arith
+
+pub local_cycle : (cpu cpu' : Processor) (local local' global : List ℕ) (device : Device) (halt : Option ℕ)
+    → true ≡ is_local (ask_of cpu local) → cpu' ≡ after_turn cpu local → local' ≡ local_after_turn cpu local → halt ≡ None
+    → cycle (machine_of cpu local global device None) ≡ record { next = machine_of cpu' local' global device halt; out = None }
+local_cycle cpu cpu' local local' global device halt e a b none =
+    ap (λ (ask : Ask). core_cycle_by r2000 (machine_of cpu local global device None) ask) (nothing_asked (ask_of cpu local) e)
+    ∙ sym (ap (λ (p : Processor). record { next = machine_of p local' global device halt; out = None }) a
+    ∙ (ap (λ (l : List ℕ). record { next = machine_of (after_turn cpu local) l global device halt; out = None }) b
+    ∙ ap (λ (h : Option ℕ). record { next = machine_of (after_turn cpu local) (local_after_turn cpu local) global device h; out = None }) none))
 
 -- the cycle of a machine that has not halted is that of its parts
 pub cycle_of_parts : (m : Machine) (cpu : Processor) (local global : List ℕ) (device : Device) (halt : Option ℕ) (o : Outcome)

@@ -1,6 +1,6 @@
 //! The machine of one processor.
 
-ghost use Rattle.std.specs.Prelude.{◌≡◌, ◌<◌, ◌++◌, ℕ, List, None, IfOk, length};
+ghost use Rattle.std.specs.Prelude.{◌≡◌, ◌≢◌, ◌<◌, ◌++◌, ℕ, List, None, IfOk, length};
 ghost use Rattle.s2_base.specs.declared.map.TheConstants.{LOCAL_WORDS, GLOBAL_WORDS};
 ghost use Rattle.s2_machine.specs.Machine.{started};
 ghost use Rattle.s2_machine.specs.LocalWork.{ask_of};
@@ -13,7 +13,7 @@ ghost use Rattle.s2_single.specs.SingleMachine.{after_event, cycle_effect, in_ru
 
 use crate::outside_access::access;
 use s2_base::Memory;
-use s2_core::{Ask, finish, work};
+use s2_core::{Ask, ask, finish, try_turn};
 use s2_cpu::Cpu;
 use s2_device::{Board, Effect};
 use s2_elf::Image;
@@ -60,21 +60,21 @@ fn set_lines(cpu: &mut Cpu, lines: u8)
 }
 
 /// The end of a cycle that asked for an access: the access, and then the processor takes the word that it
-/// read and the lines of the devices.
+/// read and the lines of the devices. It gives the console byte of the cycle.
 fn finish_outside(
     cpu: &mut Cpu,
     local: &mut FlatStore,
     global: &mut FlatStore,
     board: &mut Board,
+    halt: &mut Option<u32>,
     request: Request,
-) -> Effect
+) -> Option<u8>
     requires local { length local.old ≡ LOCAL_WORDS }
     requires global { length global.old ≡ GLOBAL_WORDS }
     requires asked { ask_of cpu.old local.old ≡ Ask.Outside request }
     requires mask { request.mask < 16 }
     ensures cycle { core_cycle_by r2000 (machine_of cpu.old local.old global.old board.old None) (Ask.Outside request)
-        ≡ record { next = machine_of cpu.new local.new global.new board.new result.halt; out = result.out } }
-    ensures word { result.word ≡ 0 }
+        ≡ record { next = machine_of cpu.new local.new global.new board.new halt.new; out = result } }
     ensures local { length local.new ≡ LOCAL_WORDS }
     ensures global { length global.new ≡ GLOBAL_WORDS }
 {
@@ -84,35 +84,55 @@ fn finish_outside(
         lines: board.lines(),
     };
     finish(cpu, local, reply);
-    Effect {
-        word: 0,
-        out: effect.out,
-        halt: effect.halt,
+    *halt = effect.halt;
+    effect.out
+}
+
+/// A cycle that asks for an access, of the parts of a machine that has not halted.
+#[cold]
+#[inline(never)]
+fn cycle_outside(
+    cpu: &mut Cpu,
+    local: &mut FlatStore,
+    global: &mut FlatStore,
+    board: &mut Board,
+    halt: &mut Option<u32>,
+) -> Option<u8>
+    requires local { length local.old ≡ LOCAL_WORDS }
+    requires global { length global.old ≡ GLOBAL_WORDS }
+    requires asked { ask_of cpu.old local.old ≢ Ask.Local }
+    ensures cycle { cycle (machine_of cpu.old local.old global.old board.old None)
+        ≡ record { next = machine_of cpu.new local.new global.new board.new halt.new; out = result } }
+    ensures local { length local.new ≡ LOCAL_WORDS }
+    ensures global { length global.new ≡ GLOBAL_WORDS }
+{
+    match ask(cpu, local) {
+        Ask::Local => unreachable!(),
+        Ask::Outside(request) => finish_outside(cpu, local, global, board, halt, request),
     }
 }
 
-/// A cycle of the parts of a machine that has not halted.
+/// A cycle of the parts of a machine that has not halted, and the console byte of it.
+#[inline(always)]
 fn cycle_of(
     cpu: &mut Cpu,
     local: &mut FlatStore,
     global: &mut FlatStore,
     board: &mut Board,
-) -> Effect
+    halt: &mut Option<u32>,
+) -> Option<u8>
     requires local { length local.old ≡ LOCAL_WORDS }
     requires global { length global.old ≡ GLOBAL_WORDS }
+    requires halt { halt.old ≡ None }
     ensures cycle { cycle (machine_of cpu.old local.old global.old board.old None)
-        ≡ record { next = machine_of cpu.new local.new global.new board.new result.halt; out = result.out } }
-    ensures word { result.word ≡ 0 }
+        ≡ record { next = machine_of cpu.new local.new global.new board.new halt.new; out = result } }
     ensures local { length local.new ≡ LOCAL_WORDS }
     ensures global { length global.new ≡ GLOBAL_WORDS }
 {
-    match work(cpu, local) {
-        Ask::Local => Effect {
-            word: 0,
-            out: None,
-            halt: None,
-        },
-        Ask::Outside(request) => finish_outside(cpu, local, global, board, request),
+    if try_turn(cpu, local) {
+        None
+    } else {
+        cycle_outside(cpu, local, global, board, halt)
     }
 }
 
@@ -156,14 +176,18 @@ impl Single {
         ensures run { (bytes : List ℕ)
             → after_cycle (in_run self.old bytes) ≡ in_run self.new (bytes ++ bytes_of result.out) }
     {
-        let effect = cycle_of(
+        let out = cycle_of(
             &mut self.cpu,
             &mut self.local,
             &mut self.global,
             &mut self.board,
+            &mut self.halt,
         );
-        self.halt = effect.halt;
-        effect
+        Effect {
+            word: 0,
+            out,
+            halt: self.halt,
+        }
     }
 
     /// How many cycles were run, modulo 2^64.

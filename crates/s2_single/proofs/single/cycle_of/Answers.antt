@@ -1,10 +1,12 @@
 use Rattle.std.proofs.Common.{◌∙◌}
-use Rattle.s2_single.proofs.SingleCycles.{still_asks, asked_cycle}
+use Rattle.s2_single.proofs.SingleCycles.{still_asks, same_cycle, local_cycle}
 use Rattle.s2_single.proofs.single.cycle_of.Goals as goal
 
-pub finish_outside-requires-clause-asked : goal.finish_outside-requires-clause-asked
-finish_outside-requires-clause-asked c = still_asks _ _ _ _ _ c.in-Outside.ensures.cpu c.in-Outside.ensures.words c.in-Outside.ensures.ask
+pub cycle_outside-requires-clause-asked : goal.cycle_outside-requires-clause-asked
+cycle_outside-requires-clause-asked c = still_asks c.args.cpu.now _ c.args.local.now _ c.if-try_turn.ensures.local c.if-try_turn.ensures.cpu c.if-try_turn.ensures.words
 
-pub returns-in-Outside-clause-cycle : goal.returns-in-Outside-clause-cycle
-returns-in-Outside-clause-cycle c =
-    asked_cycle _ _ _ _ _ _ _ c.in-Outside.ensures.cpu c.in-Outside.ensures.words c.in-Outside.ensures.ask ∙ c.finish_outside.ensures.cycle
+pub returns-then-try_turn-clause-cycle : goal.returns-then-try_turn-clause-cycle
+returns-then-try_turn-clause-cycle c = local_cycle c.args.cpu.now _ c.args.local.now _ _ _ _ c.if-try_turn.ensures.local c.if-try_turn.ensures.cpu c.if-try_turn.ensures.words c.requires.halt
+
+pub returns-else-try_turn-clause-cycle : goal.returns-else-try_turn-clause-cycle
+returns-else-try_turn-clause-cycle c = same_cycle c.args.cpu.now _ c.args.local.now _ _ _ c.if-try_turn.ensures.cpu c.if-try_turn.ensures.words ∙ c.cycle_outside.ensures.cycle

@@ -1,4 +1,4 @@
-use Rattle.std.proofs.Common.{sym, ap}
+use Rattle.std.proofs.Common.{sym, ap, refl}
 use Rattle.s2_machine.specs.Cores.{Outcome}
 use Rattle.s2_single.specs.SingleMachine.{machine_of}
 use Rattle.s2_single.proofs.SingleCycles.{cycle_of_parts, effect_of_cycle, run_of_cycle}
@@ -6,15 +6,15 @@ use Rattle.s2_single.proofs.single.Single.cycle.Goals as goal
 
 pub returns-clause-machine : goal.returns-clause-machine
 returns-clause-machine c =
-    sym (ap (λ (o : Outcome). o.next) (cycle_of_parts c.args.self.now _ _ _ _ c.self.inside.halt _ c.self.view_is c.requires c.cycle_of-effect.ensures.cycle))
+    sym (ap (λ (o : Outcome). o.next) (cycle_of_parts c.args.self.now _ _ _ _ c.self.inside.halt _ c.self.view_is c.requires c.cycle_of-out.ensures.cycle))
 
 pub returns-clause-effect : goal.returns-clause-effect
 returns-clause-effect c =
-    let new = c.cycle_of-effect.new in
-    effect_of_cycle c.args.self.now (machine_of new.cpu new.local new.global new.board c.cycle_of-effect.result.halt) c.cycle_of-effect.result c.cycle_of-effect.ensures.word
-    (cycle_of_parts c.args.self.now _ _ _ _ c.self.inside.halt _ c.self.view_is c.requires c.cycle_of-effect.ensures.cycle)
+    let new = c.cycle_of-out.new in
+    effect_of_cycle c.args.self.now (machine_of new.cpu new.local new.global new.board new.halt) _ refl
+    (cycle_of_parts c.args.self.now _ _ _ _ c.self.inside.halt _ c.self.view_is c.requires c.cycle_of-out.ensures.cycle)
 
 pub returns-clause-run : goal.returns-clause-run
 returns-clause-run c bytes =
-    run_of_cycle c.args.self.now _ c.cycle_of-effect.result.out bytes c.requires
-    (cycle_of_parts c.args.self.now _ _ _ _ c.self.inside.halt _ c.self.view_is c.requires c.cycle_of-effect.ensures.cycle)
+    run_of_cycle c.args.self.now _ c.cycle_of-out.result bytes c.requires
+    (cycle_of_parts c.args.self.now _ _ _ _ c.self.inside.halt _ c.self.view_is c.requires c.cycle_of-out.ensures.cycle)
