@@ -50,9 +50,8 @@ impl Regs {
         requires { n < REGISTERS }
         ensures { self.new ≡ register_set self.old n v }
     {
-        if n != 0 {
-            self.words[n as usize] = v;
-        }
+        self.words[n as usize] = v;
+        self.words[0] = 0;
     }
 
     /// What the general registers are: 32 words, of which the first is 0. It does nothing, and tells a caller
