@@ -8,7 +8,7 @@ use Rattle.s2_base.specs.declared.places.Place.{Place}
 use Rattle.s2_base.specs.declared.places.Place.TheVariants.{Local}
 use Rattle.s2_base.specs.declared.places.Segment.{Segment}
 use Rattle.s2_base.specs.declared.places.Segment.TheVariants.{Direct}
-use Rattle.s2_cp0.specs.ControlRegisters.{is_user, is_isolated}
+use Rattle.s2_cp0.specs.ControlRegisters.{is_user, is_isolated, enables_interrupts, is_interrupted}
 use Rattle.s2_cpu.specs.Cases.{first_that_holds}
 use Rattle.s2_cpu.specs.Processor.{Processor}
 use Rattle.s2_cpu.specs.Exceptions.{AdEL, Mod, address_error, failed_look_up}
@@ -20,7 +20,7 @@ use Rattle.s2_decode.specs.declared.instr.OpM.{OpM}
 use Rattle.s2_machine.specs.MemoryAccess.{access_of, is_aligned}
 use Rattle.s2_machine.specs.declared.step.Step.TheVariants.{Raise}
 use Rattle.s2_core.specs.declared.reach.Reach.TheVariants.{At}
-use Rattle.s2_core.specs.Kseg0.{is_near, near_index, fetches_near, accesses_near}
+use Rattle.s2_core.specs.Kseg0.{is_near, near_index, fetches_near, fetches_quietly, accesses_near}
 use Rattle.s2_core.specs.TestOrder.{fetch_at_place, fetch_through, fetch_outcome, placed_step, isolated_step, addressed_step, access_through, access_step, reached_step}
 
 -- both of two hold
@@ -49,6 +49,16 @@ pub near : (p : Processor) (va : ℕ) → is_near p va ≡ true → IsNear p va
 near p va h =
     let (kernel, from, to) = both (not (is_user p.cp0)) (nat_le UNMAPPED_START va) (nat_lt (va - UNMAPPED_START) LOCAL_END) h in
     record { kernel = kernel; from = grind (arith, nat_tests); to = grind (arith, nat_tests) }
+
+-- where interrupts are off, none is taken
+off : (b any : Bool) → not b ≡ true → (b && any) ≡ false
+off false any h = refl
+off true any h = grind arith
+
+pub quiet : (p : Processor) → fetches_quietly p ≡ true → is_interrupted p.cp0 p.lines ≡ false
+quiet p h =
+    let (disabled, rest) = two (not (enables_interrupts p.cp0)) (fetches_near p) h in
+    off (enables_interrupts p.cp0) _ disabled
 
 -- its segment and its place
 direct : (user : Bool) (va : ℕ) → not user ≡ true → UNMAPPED_START ≤ va → va - UNMAPPED_START < LOCAL_END → segment_at va user ≡ Direct (va - UNMAPPED_START)

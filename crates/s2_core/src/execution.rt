@@ -16,7 +16,7 @@ use crate::direct_rows::{
 };
 use crate::fetch::fetch;
 use crate::instruction_rows::{execute, interrupted};
-use crate::kseg0::{fetches_near, near_index};
+use crate::kseg0::{fetches_near, fetches_quietly, near_index};
 use crate::write_back::{raised, write_back};
 use s2_base::LOCAL_WORDS;
 use s2_cp0::INT;
@@ -187,9 +187,10 @@ fn carry_out_instruction<S: Store>(cpu: &mut Cpu, store: &mut S) -> bool
     }
 }
 
-/// The next cycle.
-#[inline(always)]
-pub fn carry_out_cycle<S: Store>(cpu: &mut Cpu, store: &mut S) -> bool
+/// The next cycle, whether or not an interrupt is up.
+#[cold]
+#[inline(never)]
+fn carry_out_tested<S: Store>(cpu: &mut Cpu, store: &mut S) -> bool
     requires { length (S.words store.now) ≡ LOCAL_WORDS }
     ensures done { IsCarriedOut cpu.old (S.words store.old) (S.marks store.old) (step_of cpu.old (S.words store.old)) result
         cpu.new (S.words store.new) (S.marks store.new) }
@@ -200,4 +201,20 @@ pub fn carry_out_cycle<S: Store>(cpu: &mut Cpu, store: &mut S) -> bool
         return raised(cpu, Exc::plain(INT));
     }
     carry_out_instruction(cpu, store)
+}
+
+/// The next cycle.
+#[inline(always)]
+pub fn carry_out_cycle<S: Store>(cpu: &mut Cpu, store: &mut S) -> bool
+    requires { length (S.words store.now) ≡ LOCAL_WORDS }
+    ensures done { IsCarriedOut cpu.old (S.words store.old) (S.marks store.old) (step_of cpu.old (S.words store.old)) result
+        cpu.new (S.words store.new) (S.marks store.new) }
+    ensures size { length (S.words store.new) ≡ length (S.words store.old) }
+    ensures rest { S.rest store.new ≡ S.rest store.old }
+{
+    if fetches_quietly(cpu) {
+        carry_out_near(cpu, store)
+    } else {
+        carry_out_tested(cpu, store)
+    }
 }

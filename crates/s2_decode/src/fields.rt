@@ -7,10 +7,10 @@ ghost use Rattle.s2_decode.specs.Fields.{op_of, rs_of, rt_of, rd_of, sa_of, fn_o
 
 /// The operation code, bits 31 to 26.
 #[inline(always)]
-pub fn operation(word: u32) -> u8
+pub fn operation(word: u32) -> u32
     ensures { result ≡ op_of word }
 {
-    (word / 0x0400_0000) as u8
+    word / 0x0400_0000
 }
 
 /// The register in bits 25 to 21.
@@ -51,10 +51,10 @@ pub fn amount(word: u32) -> u8
 
 /// The function code, bits 5 to 0.
 #[inline(always)]
-pub fn function(word: u32) -> u8
+pub fn function(word: u32) -> u32
     ensures { result ≡ fn_of word }
 {
-    (word % 64) as u8
+    word % 64
 }
 
 /// The immediate or the offset, bits 15 to 0.
