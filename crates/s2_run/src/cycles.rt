@@ -40,9 +40,11 @@ pub fn run_cycles<C: Sink>(machine: &mut Single, limit: u64, console: &mut C) ->
         (C.empty_takes console.old) (C.empty_takes console.new) }
 {
     let mut written = 0u64;
-    for _ in 0..limit {
-        let effect = machine.cycle();
-        match emit(console, effect.out) {
+    let mut left = limit;
+    while left > 0 {
+        let burst = machine.burst(left);
+        left -= burst.cycles;
+        match emit(console, burst.out) {
             Ok(n) => written += n,
             Err(_) => {
                 return Err(Cut {

@@ -1,5 +1,5 @@
 -- From a cycle of a machine's parts to a cycle of the machine.
-use Rattle.std.proofs.Common.{◌≡◌, ◌≢◌, ℕ, true, false, List, ◌++◌, None, refl, sym, ap, ◌∙◌, arith}
+use Rattle.std.proofs.Common.{◌≡◌, ◌≢◌, ◌+◌, ℕ, true, false, [], length, append-nil, List, ◌++◌, None, refl, sym, ap, ◌∙◌, arith}
 use Rattle.std.specs.declared.option.Option.{Option}
 use Rattle.s2_device.specs.DeviceState.{Device}
 use Rattle.s2_device.specs.declared.effect.Effect.{Effect}
@@ -9,7 +9,9 @@ use Rattle.s2_machine.specs.LocalWork.{ask_of, after_turn, local_after_turn}
 use Rattle.s2_machine.specs.Cores.{Outcome, core_cycle_by}
 use Rattle.s2_machine.specs.R2000.{r2000}
 use Rattle.s2_machine.specs.Cycle.{cycle}
-use Rattle.s2_machine.specs.MachineRun.{after_cycle, after_cycle_unless, bytes_of}
+use Rattle.s2_machine.specs.MachineRun.{RunState, core_cycles, after_cycle, after_cycle_unless, bytes_of}
+use Rattle.s2_core.proofs.CoreFacts.{runs_add}
+use Rattle.s2_base.specs.declared.map.TheConstants.{LOCAL_WORDS, GLOBAL_WORDS}
 use Rattle.s2_machine.specs.declared.ask.Ask.{Ask}
 use Rattle.s2_machine.specs.declared.ask.Ask.TheVariants.{Local, Outside}
 use Rattle.s2_core.specs.Working.{is_local}
@@ -61,3 +63,61 @@ pub run_of_cycle : (m next : Machine) (out : Option ℕ) (bytes : List ℕ) → 
 run_of_cycle m next out bytes running same =
     ap (λ (h : Option ℕ). after_cycle_unless (in_run m bytes) h) running
     ∙ ap (λ (o : Outcome). in_run o.next (bytes ++ bytes_of o.out)) same
+
+-- cycles of a machine's parts that were run from others, without a byte and a halt
+pub record HasRun (n : ℕ) (cpu cpu' : Processor) (local local' global global' : List ℕ) (device device' : Device) (halt : Option ℕ) : Type 0 where
+  pub run : (bytes : List ℕ) → core_cycles r2000 n (in_run (machine_of cpu local global device None) bytes) ≡ in_run (machine_of cpu' local' global' device' None) bytes
+  pub running : halt ≡ None
+  pub local_size : length local' ≡ LOCAL_WORDS
+  pub global_size : length global' ≡ GLOBAL_WORDS
+
+-- none
+pub has_not_run : (n : ℕ) (cpu : Processor) (local global : List ℕ) (device : Device) (halt : Option ℕ) → n ≡ 0 → halt ≡ None → length local ≡ LOCAL_WORDS → length global ≡ GLOBAL_WORDS
+    → HasRun n cpu cpu local local global global device device halt
+has_not_run n cpu local global device halt zero none size global_size = record {
+  run = λ bytes. ap (λ (k : ℕ). core_cycles r2000 k (in_run (machine_of cpu local global device None) bytes)) zero;
+  running = none;
+  local_size = size;
+  global_size = global_size;
+}
+
+-- one more
+pub run_more : {n : ℕ} {cpu cpu' : Processor} {local local' global global' : List ℕ} {device device' : Device} {halt : Option ℕ} (m : ℕ) (next : Machine) (out : Option ℕ)
+    → HasRun n cpu cpu' local local' global global' device device' halt → m ≡ n + 1 → cycle (machine_of cpu' local' global' device' None) ≡ record { next = next; out = out }
+    → (bytes : List ℕ) → core_cycles r2000 m (in_run (machine_of cpu local global device None) bytes) ≡ in_run next (bytes ++ bytes_of out)
+run_more {n} {cpu} {cpu'} {local} {local'} {global} {global'} {device} {device'} {halt} m next out h more same bytes =
+    ap (λ (k : ℕ). core_cycles r2000 k (in_run (machine_of cpu local global device None) bytes)) more
+    ∙ (sym (runs_add r2000 n 1 (in_run (machine_of cpu local global device None) bytes))
+    ∙ (ap (λ (ran : RunState). core_cycles r2000 1 ran) (h.run bytes) ∙ run_of_cycle (machine_of cpu' local' global' device' None) next out bytes refl same))
+
+-- and one that asks nothing
+pub turn_more : {n : ℕ} {cpu cpu' : Processor} {local local' global global' : List ℕ} {device device' : Device} {halt : Option ℕ} (m : ℕ) (cpu'' : Processor) (local'' : List ℕ)
+    → HasRun n cpu cpu' local local' global global' device device' halt → m ≡ n + 1
+    → true ≡ is_local (ask_of cpu' local') → cpu'' ≡ after_turn cpu' local' → local'' ≡ local_after_turn cpu' local' → length local'' ≡ LOCAL_WORDS
+    → HasRun m cpu cpu'' local local'' global global' device device' halt
+turn_more {n} {cpu} {cpu'} {local} {local'} {global} {global'} {device} {device'} {halt} m cpu'' local'' h more e a b size = record {
+  run = λ bytes. run_more m (machine_of cpu'' local'' global' device' None) None h more (local_cycle cpu' cpu'' local' local'' global' device' None e a b refl) bytes
+      ∙ ap (in_run (machine_of cpu'' local'' global' device' None)) (append-nil bytes);
+  running = h.running;
+  local_size = size;
+  global_size = h.global_size;
+}
+
+-- as many as were asked for
+pub run_full : {n : ℕ} {cpu cpu' : Processor} {local local' global global' : List ℕ} {device device' : Device} {halt : Option ℕ} (limit : ℕ)
+    → HasRun n cpu cpu' local local' global global' device device' halt → limit ≡ n
+    → (bytes : List ℕ) → core_cycles r2000 limit (in_run (machine_of cpu local global device None) bytes) ≡ in_run (machine_of cpu' local' global' device' halt) (bytes ++ [])
+run_full {n} {cpu} {cpu'} {local} {local'} {global} {global'} {device} {device'} {halt} limit h all bytes =
+    ap (λ (k : ℕ). core_cycles r2000 k (in_run (machine_of cpu local global device None) bytes)) all
+    ∙ (h.run bytes
+    ∙ (ap (λ (o : Option ℕ). in_run (machine_of cpu' local' global' device' o) bytes) (sym h.running)
+    ∙ ap (in_run (machine_of cpu' local' global' device' halt)) (sym (append-nil bytes))))
+
+-- a machine whose parts these are
+pub run_of_parts : (m next : Machine) (cpu : Processor) (local global : List ℕ) (device : Device) (halt out : Option ℕ) (n : ℕ)
+    → machine_of cpu local global device halt ≡ m → m.halt ≡ None
+    → ((bytes : List ℕ) → core_cycles r2000 n (in_run (machine_of cpu local global device None) bytes) ≡ in_run next (bytes ++ bytes_of out))
+    → (bytes : List ℕ) → core_cycles r2000 n (in_run m bytes) ≡ in_run next (bytes ++ bytes_of out)
+run_of_parts m next cpu local global device halt out n seen running run bytes =
+    ap (λ (q : Machine). core_cycles r2000 n (in_run q bytes)) (sym seen)
+    ∙ (ap (λ (h : Option ℕ). core_cycles r2000 n (in_run (machine_of cpu local global device h) bytes)) (ap (λ (q : Machine). q.halt) seen ∙ running) ∙ run bytes)

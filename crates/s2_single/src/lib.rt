@@ -5,7 +5,7 @@
 mod outside_access;
 mod single;
 
-pub use single::Single;
+pub use single::{Burst, Single};
 
 #[cfg(test)]
 mod tests;

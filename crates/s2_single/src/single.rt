@@ -1,6 +1,6 @@
 //! The machine of one processor.
 
-ghost use Rattle.std.specs.Prelude.{◌≡◌, ◌≢◌, ◌<◌, ◌++◌, ℕ, List, None, IfOk, length};
+ghost use Rattle.std.specs.Prelude.{◌≡◌, ◌≢◌, ◌<◌, ◌≤◌, ◌++◌, ℕ, List, None, IfOk, length};
 ghost use Rattle.s2_base.specs.declared.map.TheConstants.{LOCAL_WORDS, GLOBAL_WORDS};
 ghost use Rattle.s2_machine.specs.Machine.{started};
 ghost use Rattle.s2_machine.specs.LocalWork.{ask_of};
@@ -8,7 +8,7 @@ ghost use Rattle.s2_machine.specs.WriteBack.{with_lines};
 ghost use Rattle.s2_machine.specs.Cores.{core_cycle_by};
 ghost use Rattle.s2_machine.specs.R2000.{r2000};
 ghost use Rattle.s2_machine.specs.Cycle.{cycle};
-ghost use Rattle.s2_machine.specs.MachineRun.{after_cycle, after_delivery, bytes_of};
+ghost use Rattle.s2_machine.specs.MachineRun.{core_cycles, after_cycle, after_delivery, bytes_of};
 ghost use Rattle.s2_single.specs.SingleMachine.{after_event, cycle_effect, in_run, machine_of};
 
 use crate::outside_access::access;
@@ -31,6 +31,15 @@ pub struct Single {
     global: FlatStore,
     board: Board,
     halt: Option<u32>,
+}
+
+/// What a burst of cycles came to.
+#[derive(Debug, Clone, Copy, PartialEq, Eq)]
+pub struct Burst {
+    /// How many cycles were run.
+    pub cycles: u64,
+    /// The console byte of the last one, if it wrote one; those before it write none.
+    pub out: Option<u8>,
 }
 
 impl Model for Single {
@@ -136,6 +145,47 @@ fn cycle_of(
     }
 }
 
+/// A burst of cycles of the parts of a machine that has not halted.
+#[inline(always)]
+fn burst_of(
+    cpu: &mut Cpu,
+    local: &mut FlatStore,
+    global: &mut FlatStore,
+    board: &mut Board,
+    halt: &mut Option<u32>,
+    limit: u64,
+) -> Burst
+    requires local { length local.old ≡ LOCAL_WORDS }
+    requires global { length global.old ≡ GLOBAL_WORDS }
+    requires halt { halt.old ≡ None }
+    requires limit { 0 < limit }
+    ensures run { (bytes : List ℕ)
+        → core_cycles r2000 result.cycles (in_run (machine_of cpu.old local.old global.old board.old None) bytes)
+        ≡ in_run (machine_of cpu.new local.new global.new board.new halt.new) (bytes ++ bytes_of result.out) }
+    ensures some { 0 < result.cycles }
+    ensures most { result.cycles ≤ limit }
+    ensures local { length local.new ≡ LOCAL_WORDS }
+    ensures global { length global.new ≡ GLOBAL_WORDS }
+{
+    let mut left = limit;
+    loop {
+        left -= 1;
+        if !try_turn(cpu, local) {
+            let out = cycle_outside(cpu, local, global, board, halt);
+            return Burst {
+                cycles: limit - left,
+                out,
+            };
+        }
+        if left == 0 {
+            return Burst {
+                cycles: limit,
+                out: None,
+            };
+        }
+    }
+}
+
 impl Single {
     /// The machine at the start of a program, whose words are copied once.
     ///
@@ -188,6 +238,26 @@ impl Single {
             out,
             halt: self.halt,
         }
+    }
+
+    /// A burst of cycles of a machine that has not halted: at most `limit`, which is not 0, up to the first that
+    /// accesses global memory or a device, that one included. So no cycle before the last writes a byte or halts.
+    pub fn burst(&mut self, limit: u64) -> Burst
+        requires running { self.old.halt ≡ None }
+        requires limit { 0 < limit }
+        ensures run { (bytes : List ℕ) → core_cycles r2000 result.cycles (in_run self.old bytes)
+            ≡ in_run self.new (bytes ++ bytes_of result.out) }
+        ensures some { 0 < result.cycles }
+        ensures most { result.cycles ≤ limit }
+    {
+        burst_of(
+            &mut self.cpu,
+            &mut self.local,
+            &mut self.global,
+            &mut self.board,
+            &mut self.halt,
+            limit,
+        )
     }
 
     /// How many cycles were run, modulo 2^64.

@@ -2,7 +2,7 @@
 
 ghost use Rattle.std.specs.Prelude.{◌≡◌, ◌+◌, ◌≤◌, length};
 
-use crate::Single;
+use crate::{Burst, Single};
 use s2_base::{GLOBAL_WORDS, LOCAL_WORDS};
 use s2_elf::Image;
 use s2_ports::Event;
@@ -110,6 +110,37 @@ fn hello_is_written_and_halts_in_its_eighth_cycle(rt: HostRuntime) -> Result<(),
     assert_eq!(rt; run(&rt, &mut hello, 2000)?.as_slice(), b"".as_slice());
     assert_eq!(rt; hello.halted(), Some(0));
     assert_eq!(rt; hello.run(), 8);
+    Ok(())
+}
+
+/// A burst of a machine that has not halted.
+fn burst(machine: &mut Single, limit: u64) -> Option<Burst> {
+    if limit > 0 && machine.halted().is_none() {
+        Some(machine.burst(limit))
+    } else {
+        None
+    }
+}
+
+#[test]
+fn a_burst_ends_at_an_access_or_at_its_limit(rt: HostRuntime) -> Result<(), Fail> {
+    let mut hello = machine(&rt, &HELLO, &[])?;
+    let two = Burst {
+        cycles: 2,
+        out: None,
+    };
+    assert_eq!(rt; burst(&mut hello, 2), Some(two));
+    let letter = Burst {
+        cycles: 1,
+        out: Some(b'h'),
+    };
+    assert_eq!(rt; burst(&mut hello, 100), Some(letter));
+    let next = Burst {
+        cycles: 2,
+        out: Some(b'i'),
+    };
+    assert_eq!(rt; burst(&mut hello, 100), Some(next));
+    assert_eq!(rt; hello.run(), 5);
     Ok(())
 }
 
