@@ -1,5 +1,5 @@
 -- Local memory by kseg0: which word is fetched there, and what a load or store does there.
-use Rattle.std.proofs.Common.{◌≡◌, ℕ, Bool, true, false, List, [], ◌∷◌, Result, Ok, Err, if◌then◌else◌, ◌<◌, ◌≤◌, refl, sym, ap, ◌∙◌, arith}
+use Rattle.std.proofs.Common.{◌≡◌, ℕ, Some, None, Bool, true, false, List, [], ◌∷◌, Result, Ok, Err, if◌then◌else◌, ◌<◌, ◌≤◌, refl, sym, ap, ◌∙◌, arith}
 use Rattle.std.proofs.lemmas.Bool.Decides.{nat_tests}
 use Rattle.std.specs.Prelude.{◌-◌, ◌%◌, ◌*◌, ◌/◌, ◌==◌, ◌&&◌, not, nat_le, nat_lt, slice_index}
 use Rattle.s2_base.specs.Map.{place_at, segment_at}
@@ -55,9 +55,13 @@ off : (b any : Bool) → not b ≡ true → (b && any) ≡ false
 off false any h = refl
 off true any h = grind arith
 
-pub quiet : (p : Processor) → fetches_quietly p ≡ true → is_interrupted p.cp0 p.lines ≡ false
-quiet p h =
-    let (disabled, rest) = two (not (enables_interrupts p.cp0)) (fetches_near p) h in
+some_of : (b : Bool) (x i : ℕ) → Some i ≡ (if b then Some x else None) → b ≡ true
+some_of true x i h = refl
+some_of false x i h = grind arith
+
+pub quiet : (p : Processor) (index : ℕ) → Some index ≡ (if fetches_quietly p then Some (near_index p.pc) else None) → is_interrupted p.cp0 p.lines ≡ false
+quiet p index h =
+    let (disabled, rest) = two (not (enables_interrupts p.cp0)) _ (some_of (fetches_quietly p) _ index h) in
     off (enables_interrupts p.cp0) _ disabled
 
 -- its segment and its place

@@ -22,9 +22,9 @@ near_index va = (va - UNMAPPED_START) / 4
 abbrev pub fetches_near : Processor → Bool
 fetches_near p = (p.pc % 4 == 0) && is_near p p.pc
 
--- the same, with interrupts off
+-- the same, with interrupts off, and the data cache not isolated
 abbrev pub fetches_quietly : Processor → Bool
-fetches_quietly p = not (enables_interrupts p.cp0) && fetches_near p
+fetches_quietly p = not (enables_interrupts p.cp0) && (not (is_isolated p.cp0) && fetches_near p)
 
 -- a row loads or stores a word there
 abbrev pub accesses_near : Processor → OpM → ℕ → Bool

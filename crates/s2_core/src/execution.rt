@@ -3,20 +3,20 @@
 
 ghost use Rattle.std.specs.Prelude.{◌≡◌, true, length, IfErr};
 ghost use Rattle.s2_cpu.specs.Exceptions.{IsException};
+ghost use Rattle.s2_decode.specs.Properness.{IsProper};
 ghost use Rattle.s2_decode.specs.Table.{decoded};
 ghost use Rattle.s2_machine.specs.InstructionRows.{step_of_instruction, step_of};
 ghost use Rattle.s2_machine.specs.StepRanges.{IsSound};
-ghost use Rattle.s2_core.specs.Kseg0.{fetches_near};
+ghost use Rattle.s2_core.specs.Kseg0.{fetches_near, near_index};
 ghost use Rattle.s2_core.specs.TestOrder.{fetch_outcome, step_of_fetch};
 ghost use Rattle.s2_core.specs.Working.{IsCarriedOut};
 
+use crate::branches::link_of;
 use crate::direct_access::{access_memory, load_at, store_at};
-use crate::direct_rows::{
-    branch, jump, jump_to_register, load_upper, shift_by_amount, three_registers, with_immediate,
-};
+use crate::direct_rows::{branch, computed, jump, jump_to_register, set_or_overflow};
 use crate::fetch::fetch;
 use crate::instruction_rows::{execute, interrupted};
-use crate::kseg0::{fetches_near, fetches_quietly, near_index};
+use crate::kseg0::{near_fetch, quiet_fetch};
 use crate::write_back::{raised, write_back};
 use s2_base::LOCAL_WORDS;
 use s2_cp0::INT;
@@ -69,41 +69,22 @@ fn carry_out_step<S: Store>(cpu: &mut Cpu, store: &mut S, word: u32) -> bool
     carry_out(cpu, store, step)
 }
 
-/// The instruction of a word: directly where its row is one that programs use most.
+/// The instruction of a word that does more than set a register: directly where its row is one that programs use
+/// most.
 #[inline(always)]
-fn carry_out_row<S: Store>(cpu: &mut Cpu, store: &mut S, word: u32) -> bool
-    requires { length (S.words store.now) ≡ LOCAL_WORDS }
-    ensures done { IsCarriedOut cpu.old (S.words store.old) (S.marks store.old) (step_of_instruction cpu.old (decoded word)) result
+fn carry_out_other<S: Store>(cpu: &mut Cpu, store: &mut S, instr: Instr, word: u32) -> bool
+    requires instr { instr ≡ decoded word }
+    requires proper { IsProper instr }
+    requires words { length (S.words store.now) ≡ LOCAL_WORDS }
+    ensures done { IsCarriedOut cpu.old (S.words store.old) (S.marks store.old) (step_of_instruction cpu.old instr) result
         cpu.new (S.words store.new) (S.marks store.new) }
     ensures size { length (S.words store.new) ≡ length (S.words store.old) }
     ensures rest { S.rest store.new ≡ S.rest store.old }
 {
-    match decode(word) {
-        Instr::Three { op, .. } => three_registers(
-            cpu,
-            op,
-            fields::rd(word),
-            fields::rs(word),
-            fields::rt(word),
-        ),
-        Instr::Shift { op, .. } => shift_by_amount(
-            cpu,
-            op,
-            fields::rd(word),
-            fields::rt(word),
-            fields::amount(word),
-        ),
-        Instr::Imm { op, .. } => with_immediate(
-            cpu,
-            op,
-            fields::rt(word),
-            fields::rs(word),
-            fields::immediate(word),
-        ),
-        Instr::Lui { .. } => load_upper(cpu, fields::rt(word), fields::immediate(word)),
+    match instr {
         Instr::Jump { link, .. } => jump(cpu, link, fields::target(word)),
         Instr::JumpReg { .. } => jump_to_register(cpu, fields::rs(word)),
-        Instr::Branch { op, rt, .. } => branch(
+        Instr::Branch { op, rt, .. } if link_of(op) == 0 => branch(
             cpu,
             op,
             fields::rs(word),
@@ -124,6 +105,22 @@ fn carry_out_row<S: Store>(cpu: &mut Cpu, store: &mut S, word: u32) -> bool
     }
 }
 
+/// The instruction of a word.
+#[inline(always)]
+fn carry_out_row<S: Store>(cpu: &mut Cpu, store: &mut S, word: u32) -> bool
+    requires { length (S.words store.now) ≡ LOCAL_WORDS }
+    ensures done { IsCarriedOut cpu.old (S.words store.old) (S.marks store.old) (step_of_instruction cpu.old (decoded word)) result
+        cpu.new (S.words store.new) (S.marks store.new) }
+    ensures size { length (S.words store.new) ≡ length (S.words store.old) }
+    ensures rest { S.rest store.new ≡ S.rest store.old }
+{
+    let instr = decode(word);
+    match computed(cpu, instr, word) {
+        Some((reg, value)) => set_or_overflow(cpu, reg, value),
+        None => carry_out_other(cpu, store, instr, word),
+    }
+}
+
 /// What was fetched.
 #[inline(always)]
 fn carry_out_fetched<S: Store>(cpu: &mut Cpu, store: &mut S, word: Result<u32, Exc>) -> bool
@@ -140,10 +137,11 @@ fn carry_out_fetched<S: Store>(cpu: &mut Cpu, store: &mut S, word: Result<u32, E
     }
 }
 
-/// The next cycle, whose instruction is fetched from local memory by kseg0.
+/// The next cycle, whose instruction is fetched from local memory by kseg0: from the word at this index.
 #[inline(always)]
-fn carry_out_near<S: Store>(cpu: &mut Cpu, store: &mut S) -> bool
+fn carry_out_near<S: Store>(cpu: &mut Cpu, store: &mut S, index: u32) -> bool
     requires near { fetches_near cpu.old ≡ true }
+    requires index { index ≡ near_index cpu.old.pc }
     requires words { length (S.words store.now) ≡ LOCAL_WORDS }
     ensures done { IsCarriedOut cpu.old (S.words store.old) (S.marks store.old)
         (step_of_fetch cpu.old (fetch_outcome cpu.old (S.words store.old))) result
@@ -151,7 +149,7 @@ fn carry_out_near<S: Store>(cpu: &mut Cpu, store: &mut S) -> bool
     ensures size { length (S.words store.new) ≡ length (S.words store.old) }
     ensures rest { S.rest store.new ≡ S.rest store.old }
 {
-    let word = store.word(near_index(cpu.pc));
+    let word = store.word(index);
     carry_out_row(cpu, store, word)
 }
 
@@ -180,8 +178,8 @@ fn carry_out_instruction<S: Store>(cpu: &mut Cpu, store: &mut S) -> bool
     ensures size { length (S.words store.new) ≡ length (S.words store.old) }
     ensures rest { S.rest store.new ≡ S.rest store.old }
 {
-    if fetches_near(cpu) {
-        carry_out_near(cpu, store)
+    if let Some(index) = near_fetch(cpu) {
+        carry_out_near(cpu, store, index)
     } else {
         carry_out_anywhere(cpu, store)
     }
@@ -212,8 +210,8 @@ pub fn carry_out_cycle<S: Store>(cpu: &mut Cpu, store: &mut S) -> bool
     ensures size { length (S.words store.new) ≡ length (S.words store.old) }
     ensures rest { S.rest store.new ≡ S.rest store.old }
 {
-    if fetches_quietly(cpu) {
-        carry_out_near(cpu, store)
+    if let Some(index) = quiet_fetch(cpu) {
+        carry_out_near(cpu, store, index)
     } else {
         carry_out_tested(cpu, store)
     }

@@ -78,10 +78,11 @@ pub fn jump(cpu: &mut Cpu, target: Option<u32>, link: u8)
     requires { link < 32 }
     ensures { cpu.new ≡ after_jump cpu.old target link }
 {
-    let after = cpu.pc.wrapping_add(8);
+    let next = target.unwrap_or(cpu.npc.wrapping_add(4));
     settle(cpu);
+    let after = cpu.pc.wrapping_add(8);
     cpu.pc = cpu.npc;
-    cpu.npc = target.unwrap_or(cpu.npc.wrapping_add(4));
+    cpu.npc = next;
     cpu.slot = true;
     cpu.r.set(link, after);
 }

@@ -6,5 +6,5 @@ use Rattle.s2_core.proofs.direct_rows.branch.Goals as goal
 
 pub returns : goal.returns
 returns c = λ local marks.
-    let same : Jump c.branch_target-target.result c.link_of.result ≡ branch_step c.args.cpu.now c.args.op c.args.rs c.args.rt c.args.off = search rules in
+    let same : Jump c.branch_target-target.result 0 ≡ branch_step c.args.cpu.now c.args.op c.args.rs c.args.rt c.args.off = search rules in
     carried c.args.cpu.now _ _ _ _ _ _ _ _ same (c.go_to.ensures local marks)

@@ -1,12 +1,11 @@
 -- The cycle's step, where no interrupt can be up.
-use Rattle.std.proofs.Common.{sym, ◌∙◌}
 use Rattle.s2_core.proofs.CaseOrder.{step_executed}
 use Rattle.s2_core.proofs.CarriedOut.{carried}
 use Rattle.s2_core.proofs.NearWords.{quiet}
 use Rattle.s2_core.proofs.execution.carry_out_cycle.Goals as goal
 
-pub returns-then-fetches_quietly-clause-done : goal.returns-then-fetches_quietly-clause-done
-returns-then-fetches_quietly-clause-done g c =
+pub returns-in-Some-clause-done : goal.returns-in-Some-clause-done
+returns-in-Some-clause-done g c =
     carried c.args.cpu.now _ _ _ _ _ _ _ _
-    (step_executed c.args.cpu.now (g.S.Store.words c.args.store.now) (quiet c.args.cpu.now (sym c.fetches_quietly.ensures ∙ c.if-fetches_quietly.true)))
+    (step_executed c.args.cpu.now (g.S.Store.words c.args.store.now) (quiet c.args.cpu.now c.in-Some.index c.in-Some.ensures))
     c.carry_out_near.ensures.done
