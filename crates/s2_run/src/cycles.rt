@@ -43,7 +43,7 @@ pub fn run_cycles<C: Sink>(machine: &mut Single, limit: u64, console: &mut C) ->
     let mut left = limit;
     while left > 0 {
         let burst = machine.burst(left);
-        left -= burst.cycles;
+        left = burst.left;
         match emit(console, burst.out) {
             Ok(n) => written += n,
             Err(_) => {

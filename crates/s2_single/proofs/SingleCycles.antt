@@ -1,5 +1,5 @@
 -- From a cycle of a machine's parts to a cycle of the machine.
-use Rattle.std.proofs.Common.{◌≡◌, ◌≢◌, ◌+◌, ℕ, true, false, [], length, append-nil, List, ◌++◌, None, refl, sym, ap, ◌∙◌, arith}
+use Rattle.std.proofs.Common.{◌≡◌, ◌≢◌, ◌+◌, ℕ, suc, true, false, [], length, append-nil, List, ◌++◌, None, refl, sym, ap, ◌∙◌, subst, Bool, if◌then◌else◌, ◌-◌, ◌≤◌, ◌<◌, ◌%◌, ◌^◌, arith}
 use Rattle.std.specs.declared.option.Option.{Option}
 use Rattle.s2_device.specs.DeviceState.{Device}
 use Rattle.s2_device.specs.declared.effect.Effect.{Effect}
@@ -10,12 +10,12 @@ use Rattle.s2_machine.specs.Cores.{Outcome, core_cycle_by}
 use Rattle.s2_machine.specs.R2000.{r2000}
 use Rattle.s2_machine.specs.Cycle.{cycle}
 use Rattle.s2_machine.specs.MachineRun.{RunState, core_cycles, after_cycle, after_cycle_unless, bytes_of}
-use Rattle.s2_core.proofs.CoreFacts.{runs_add}
+use Rattle.s2_core.proofs.CoreFacts.{runs_add, r2000_core}
 use Rattle.s2_base.specs.declared.map.TheConstants.{LOCAL_WORDS, GLOBAL_WORDS}
 use Rattle.s2_machine.specs.declared.ask.Ask.{Ask}
 use Rattle.s2_machine.specs.declared.ask.Ask.TheVariants.{Local, Outside}
 use Rattle.s2_core.specs.Working.{is_local}
-use Rattle.s2_single.specs.SingleMachine.{cycle_effect, effect_by, in_run, machine_of}
+use Rattle.s2_single.specs.SingleMachine.{burst_cycles, cycle_effect, effect_by, in_run, machine_of}
 
 -- a turn that did not run leaves a cycle that asks for an access, and is the same cycle
 asks : (ask : Ask) → false ≡ is_local ask → ask ≢ Local
@@ -64,9 +64,19 @@ run_of_cycle m next out bytes running same =
     ap (λ (h : Option ℕ). after_cycle_unless (in_run m bytes) h) running
     ∙ ap (λ (o : Outcome). in_run o.next (bytes ++ bytes_of o.out)) same
 
--- cycles of a machine's parts that were run from others, without a byte and a halt
+-- a cycle that asks nothing is one of a burst, and one that asks for an access is its last
+burst_goes_on : (k : ℕ) (m next : Machine) (out : Option ℕ) → true ≡ is_local (ask_of m.cpu m.local) → cycle m ≡ record { next = next; out = out }
+    → burst_cycles (suc k) m ≡ 1 + burst_cycles k next
+burst_goes_on k m next out e same =
+    ap (λ (b : Bool). if b then 1 + burst_cycles k (cycle m).next else 1) (sym e) ∙ ap (λ (o : Outcome). 1 + burst_cycles k o.next) same
+
+burst_ends : (k : ℕ) (m : Machine) → false ≡ is_local (ask_of m.cpu m.local) → burst_cycles (suc k) m ≡ 1
+burst_ends k m e = ap (λ (b : Bool). if b then 1 + burst_cycles k (cycle m).next else 1) (sym e)
+
+-- cycles of a machine's parts that were run from others, without a byte and a halt, and each one of a burst
 pub record HasRun (n : ℕ) (cpu cpu' : Processor) (local local' global global' : List ℕ) (device device' : Device) (halt : Option ℕ) : Type 0 where
   pub run : (bytes : List ℕ) → core_cycles r2000 n (in_run (machine_of cpu local global device None) bytes) ≡ in_run (machine_of cpu' local' global' device' None) bytes
+  pub counted : (k : ℕ) → burst_cycles (n + k) (machine_of cpu local global device None) ≡ n + burst_cycles k (machine_of cpu' local' global' device' None)
   pub running : halt ≡ None
   pub local_size : length local' ≡ LOCAL_WORDS
   pub global_size : length global' ≡ GLOBAL_WORDS
@@ -76,6 +86,7 @@ pub has_not_run : (n : ℕ) (cpu : Processor) (local global : List ℕ) (device 
     → HasRun n cpu cpu local local global global device device halt
 has_not_run n cpu local global device halt zero none size global_size = record {
   run = λ bytes. ap (λ (k : ℕ). core_cycles r2000 k (in_run (machine_of cpu local global device None) bytes)) zero;
+  counted = λ k. subst (λ j. burst_cycles (j + k) (machine_of cpu local global device None) ≡ j + burst_cycles k (machine_of cpu local global device None)) (sym zero) (grind arith);
   running = none;
   local_size = size;
   global_size = global_size;
@@ -98,10 +109,34 @@ pub turn_more : {n : ℕ} {cpu cpu' : Processor} {local local' global global' : 
 turn_more {n} {cpu} {cpu'} {local} {local'} {global} {global'} {device} {device'} {halt} m cpu'' local'' h more e a b size = record {
   run = λ bytes. run_more m (machine_of cpu'' local'' global' device' None) None h more (local_cycle cpu' cpu'' local' local'' global' device' None e a b refl) bytes
       ∙ ap (in_run (machine_of cpu'' local'' global' device' None)) (append-nil bytes);
+  counted = λ k.
+      let m0 = machine_of cpu local global device None in
+      let next = machine_of cpu'' local'' global' device' None in
+      let here : m + k ≡ n + suc k = omega (arith, more) in
+      let there : n + (1 + burst_cycles k next) ≡ m + burst_cycles k next = omega (arith, more) in
+      ap (λ j. burst_cycles j m0) here
+      ∙ (h.counted (suc k)
+      ∙ (ap (λ j. n + j) (burst_goes_on k (machine_of cpu' local' global' device' None) next None e (local_cycle cpu' cpu'' local' local'' global' device' None e a b refl))
+      ∙ there));
   running = h.running;
   local_size = size;
   global_size = h.global_size;
 }
+
+-- the run count counts each
+pub turn_counts : (cpu cpu' : Processor) (local : List ℕ) (start n m : ℕ) → true ≡ is_local (ask_of cpu local) → cpu' ≡ after_turn cpu local
+    → cpu.run ≡ (start + n) % 2 ^ 64 → m ≡ n + 1 → cpu'.run ≡ (start + m) % 2 ^ 64
+turn_counts cpu cpu' local start n m e a counted more =
+    let one : cpu'.run ≡ (cpu.run + 1) % 2 ^ 64 = ap (λ (p : Processor). p.run) a ∙ r2000_core.run_after_turn cpu local (nothing_asked (ask_of cpu local) e) in
+    omega (arith, one, counted, more)
+
+ran_since : (run start n : ℕ) → run ≡ (start + n) % 2 ^ 64 → start < 2 ^ 64 → n < 2 ^ 64 → (run + (2 ^ 64 - start)) % 2 ^ 64 ≡ n
+ran_since run start n counted small few = omega (arith, counted, small, few)
+
+-- so it tells how many a burst has that ends with the next
+pub ran_with_next : (run start left limit : ℕ) → run ≡ (start + (limit - left)) % 2 ^ 64 → start < 2 ^ 64 → limit < 2 ^ 64 → 0 < left → left ≤ limit
+    → limit - (limit - (run + (2 ^ 64 - start)) % 2 ^ 64 - 1) ≡ (limit - left) + 1
+ran_with_next run start left limit counted small few some most = omega (arith, ran_since run start (limit - left) counted small (omega arith), some, most)
 
 -- as many as were asked for
 pub run_full : {n : ℕ} {cpu cpu' : Processor} {local local' global global' : List ℕ} {device device' : Device} {halt : Option ℕ} (limit : ℕ)
@@ -113,6 +148,25 @@ run_full {n} {cpu} {cpu'} {local} {local'} {global} {global'} {device} {device'}
     ∙ (ap (λ (o : Option ℕ). in_run (machine_of cpu' local' global' device' o) bytes) (sym h.running)
     ∙ ap (in_run (machine_of cpu' local' global' device' halt)) (sym (append-nil bytes))))
 
+-- the burst was so long
+pub counted_full : (limit n : ℕ) {cpu cpu' : Processor} {local local' global global' : List ℕ} {device device' : Device} {halt : Option ℕ}
+    → HasRun n cpu cpu' local local' global global' device device' halt → n ≡ limit
+    → n ≡ burst_cycles limit (machine_of cpu local global device None)
+counted_full limit n {cpu} {cpu'} {local} {local'} {global} {global'} {device} {device'} {halt} h all =
+    let here : n + 0 ≡ limit = omega (arith, all) in
+    let nothing : n ≡ n + burst_cycles 0 (machine_of cpu' local' global' device' None) = grind arith in
+    nothing ∙ (sym (h.counted 0) ∙ ap (λ j. burst_cycles j (machine_of cpu local global device None)) here)
+
+pub counted_outside : {n : ℕ} {cpu cpu' : Processor} {local local' global global' : List ℕ} {device device' : Device} {halt : Option ℕ} (limit cycles : ℕ)
+    → HasRun n cpu cpu' local local' global global' device device' halt → cycles ≡ n + 1 → cycles ≤ limit → false ≡ is_local (ask_of cpu' local')
+    → cycles ≡ burst_cycles limit (machine_of cpu local global device None)
+counted_outside {n} {cpu} {cpu'} {local} {local'} {global} {global'} {device} {device'} {halt} limit cycles h one within e =
+    let left = limit - cycles in
+    let here : n + suc left ≡ limit = omega (arith, one, within) in
+    one
+    ∙ (sym (ap (λ j. n + j) (burst_ends left (machine_of cpu' local' global' device' None) e))
+    ∙ (sym (h.counted (suc left)) ∙ ap (λ j. burst_cycles j (machine_of cpu local global device None)) here))
+
 -- a machine whose parts these are
 pub run_of_parts : (m next : Machine) (cpu : Processor) (local global : List ℕ) (device : Device) (halt out : Option ℕ) (n : ℕ)
     → machine_of cpu local global device halt ≡ m → m.halt ≡ None
@@ -121,3 +175,11 @@ pub run_of_parts : (m next : Machine) (cpu : Processor) (local global : List ℕ
 run_of_parts m next cpu local global device halt out n seen running run bytes =
     ap (λ (q : Machine). core_cycles r2000 n (in_run q bytes)) (sym seen)
     ∙ (ap (λ (h : Option ℕ). core_cycles r2000 n (in_run (machine_of cpu local global device h) bytes)) (ap (λ (q : Machine). q.halt) seen ∙ running) ∙ run bytes)
+
+pub counted_of_parts : (m : Machine) (cpu : Processor) (local global : List ℕ) (device : Device) (halt : Option ℕ) (n limit : ℕ)
+    → machine_of cpu local global device halt ≡ m → m.halt ≡ None
+    → n ≡ burst_cycles limit (machine_of cpu local global device None) → n ≡ burst_cycles limit m
+counted_of_parts m cpu local global device halt n limit seen running counted =
+    counted
+    ∙ (sym (ap (λ (h : Option ℕ). burst_cycles limit (machine_of cpu local global device h)) (ap (λ (q : Machine). q.halt) seen ∙ running))
+    ∙ ap (λ (q : Machine). burst_cycles limit q) seen)

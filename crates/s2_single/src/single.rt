@@ -1,6 +1,6 @@
 //! The machine of one processor.
 
-ghost use Rattle.std.specs.Prelude.{◌≡◌, ◌≢◌, ◌<◌, ◌≤◌, ◌++◌, ℕ, List, None, IfOk, length};
+ghost use Rattle.std.specs.Prelude.{◌≡◌, ◌≢◌, ◌<◌, ◌-◌, ◌++◌, ℕ, List, None, IfOk, length};
 ghost use Rattle.s2_base.specs.declared.map.TheConstants.{LOCAL_WORDS, GLOBAL_WORDS};
 ghost use Rattle.s2_machine.specs.Machine.{started};
 ghost use Rattle.s2_machine.specs.LocalWork.{ask_of};
@@ -9,7 +9,7 @@ ghost use Rattle.s2_machine.specs.Cores.{core_cycle_by};
 ghost use Rattle.s2_machine.specs.R2000.{r2000};
 ghost use Rattle.s2_machine.specs.Cycle.{cycle};
 ghost use Rattle.s2_machine.specs.MachineRun.{core_cycles, after_cycle, after_delivery, bytes_of};
-ghost use Rattle.s2_single.specs.SingleMachine.{after_event, cycle_effect, in_run, machine_of};
+ghost use Rattle.s2_single.specs.SingleMachine.{after_event, burst_cycles, cycle_effect, in_run, machine_of};
 
 use crate::outside_access::access;
 use s2_base::Memory;
@@ -36,8 +36,8 @@ pub struct Single {
 /// What a burst of cycles came to.
 #[derive(Debug, Clone, Copy, PartialEq, Eq)]
 pub struct Burst {
-    /// How many cycles were run.
-    pub cycles: u64,
+    /// How many cycles of the limit are left.
+    pub left: u64,
     /// The console byte of the last one, if it wrote one; those before it write none.
     pub out: Option<u8>,
 }
@@ -160,28 +160,27 @@ fn burst_of(
     requires halt { halt.old ≡ None }
     requires limit { 0 < limit }
     ensures run { (bytes : List ℕ)
-        → core_cycles r2000 result.cycles (in_run (machine_of cpu.old local.old global.old board.old None) bytes)
+        → core_cycles r2000 (limit - result.left) (in_run (machine_of cpu.old local.old global.old board.old None) bytes)
         ≡ in_run (machine_of cpu.new local.new global.new board.new halt.new) (bytes ++ bytes_of result.out) }
-    ensures some { 0 < result.cycles }
-    ensures most { result.cycles ≤ limit }
+    ensures cycles { limit - result.left ≡ burst_cycles limit (machine_of cpu.old local.old global.old board.old None) }
+    ensures some { result.left < limit }
     ensures local { length local.new ≡ LOCAL_WORDS }
     ensures global { length global.new ≡ GLOBAL_WORDS }
 {
+    let start = cpu.run;
     let mut left = limit;
     loop {
-        left -= 1;
         if !try_turn(cpu, local) {
+            let ran = cpu.run.wrapping_sub(start);
             let out = cycle_outside(cpu, local, global, board, halt);
             return Burst {
-                cycles: limit - left,
+                left: limit - ran - 1,
                 out,
             };
         }
+        left -= 1;
         if left == 0 {
-            return Burst {
-                cycles: limit,
-                out: None,
-            };
+            return Burst { left: 0, out: None };
         }
     }
 }
@@ -245,10 +244,10 @@ impl Single {
     pub fn burst(&mut self, limit: u64) -> Burst
         requires running { self.old.halt ≡ None }
         requires limit { 0 < limit }
-        ensures run { (bytes : List ℕ) → core_cycles r2000 result.cycles (in_run self.old bytes)
+        ensures run { (bytes : List ℕ) → core_cycles r2000 (limit - result.left) (in_run self.old bytes)
             ≡ in_run self.new (bytes ++ bytes_of result.out) }
-        ensures some { 0 < result.cycles }
-        ensures most { result.cycles ≤ limit }
+        ensures cycles { limit - result.left ≡ burst_cycles limit self.old }
+        ensures some { result.left < limit }
     {
         burst_of(
             &mut self.cpu,

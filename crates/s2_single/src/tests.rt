@@ -125,18 +125,15 @@ fn burst(machine: &mut Single, limit: u64) -> Option<Burst> {
 #[test]
 fn a_burst_ends_at_an_access_or_at_its_limit(rt: HostRuntime) -> Result<(), Fail> {
     let mut hello = machine(&rt, &HELLO, &[])?;
-    let two = Burst {
-        cycles: 2,
-        out: None,
-    };
+    let two = Burst { left: 0, out: None };
     assert_eq!(rt; burst(&mut hello, 2), Some(two));
     let letter = Burst {
-        cycles: 1,
+        left: 99,
         out: Some(b'h'),
     };
     assert_eq!(rt; burst(&mut hello, 100), Some(letter));
     let next = Burst {
-        cycles: 2,
+        left: 98,
         out: Some(b'i'),
     };
     assert_eq!(rt; burst(&mut hello, 100), Some(next));
