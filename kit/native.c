@@ -44,6 +44,19 @@ void console_word(uint32_t word)
     printf("%08lx", (unsigned long)word);
 }
 
+/* Here is one processor, whose clock nobody counts. */
+static uint32_t published = NO_PRIVATE_VALUE;
+
+void private_publish(void)
+{
+    published = 0;
+}
+
+uint32_t private_value(unsigned processor)
+{
+    return processor == 0 ? published : NO_PRIVATE_VALUE;
+}
+
 /* The script's next event. */
 static void event_next(void)
 {

@@ -1,7 +1,7 @@
 /* The devices, the interrupts and the exceptions of the machine, by the functions of s2.h. */
 #include "s2.h"
 
-enum { CONOUT, CONIN, CONSTAT, TICKS, TIMACK, HALT };
+enum { CONOUT, CONIN, CONSTAT, TICKS, TIMACK, HALT, PRIV, PRIV0 };
 #define DEVICES ((volatile uint32_t *)0xBF000000)
 #define NO_KEY 0x100u
 #define OVERRUN 0x80000000u
@@ -79,6 +79,16 @@ uint32_t timer_ticks(void)
 void timer_acknowledge(void)
 {
     DEVICES[TIMACK] = 0;
+}
+
+void private_publish(void)
+{
+    DEVICES[PRIV] = 0;
+}
+
+uint32_t private_value(unsigned processor)
+{
+    return DEVICES[PRIV0 + processor];
 }
 
 /* Sets bits of Status, or clears them. */

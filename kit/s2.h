@@ -31,6 +31,15 @@ void keys_overrun_clear(void);
 uint32_t timer_ticks(void);               /* modulo 2^32 */
 void timer_acknowledge(void);             /* lowers the timer's line */
 
+/* The private-write area. Each processor's private value is the number of its clock's firings, modulo 256, and is
+ * compared with nobody's. private_publish has each processor that takes part in it put its own value into its
+ * slot; it has a line in the report. All processors then find the same numbers in the slots: where one took no
+ * part, and before the first private_publish, NO_PRIVATE_VALUE.
+ */
+#define NO_PRIVATE_VALUE 256u
+void private_publish(void);
+uint32_t private_value(unsigned processor);   /* what stands in the slot of processor 0, 1 or 2 */
+
 /* Interrupts. A handler is called once for each byte, or once where ticks have come, with interrupts off;
  * the byte has been taken, or the timer's line lowered, by then. Without a handler (0, as at the start) the
  * device interrupts nothing. No interrupt comes before interrupts_on().

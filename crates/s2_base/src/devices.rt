@@ -13,3 +13,11 @@ pub const TICKS: u32 = 3;
 pub const TIMACK: u32 = 4;
 /// The end: a store ends the run with its word as halt value.
 pub const HALT: u32 = 5;
+/// The private-write area: a store puts each agreeing processor's own value into its slot.
+pub const PRIV: u32 = 6;
+/// The slot of processor 0, which a load gives.
+pub const PRIV0: u32 = 7;
+/// The slot of processor 1.
+pub const PRIV1: u32 = 8;
+/// The slot of processor 2, the last register.
+pub const PRIV2: u32 = 9;

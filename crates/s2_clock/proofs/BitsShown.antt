@@ -1,11 +1,11 @@
 -- A word and the ticks that it shows.
-use Rattle.std.proofs.Common.{◌≡◌, ℕ, zero, suc, ◌+◌, ◌*◌, ◌/◌, ◌%◌, ◌^◌, ◌<◌, ◌≤◌, List, ◌∷◌, take, refl, sym, ap, subst, ◌∙◌, arith}
+use Rattle.std.proofs.Common.{◌≡◌, ℕ, zero, suc, ◌+◌, ◌-◌, ◌*◌, ◌/◌, ◌%◌, ◌^◌, ◌<◌, ◌≤◌, List, ◌∷◌, take, refl, sym, ap, subst, ◌∙◌, arith}
 use Rattle.std.specs.Prelude.{Bool, true, false, ◌==◌, bit_or}
 use Rattle.std.specs.Int.RustNames.{count_ones}
-use Rattle.std.proofs.lemmas.Nat.{ones_cat, or_shifted, mod-pow-add}
+use Rattle.std.proofs.lemmas.Nat.{ones_cat, or_shifted, mod-pow-add, mul-mod_first, pow-add}
 use Rattle.std.proofs.lemmas.Bool.Decides.{nat_tests}
-use Rattle.std.proofs.Math.Nat.{pow-suc}
-use Rattle.s2_clock.specs.TickWindow.{bits_shown, miss_of, misses_in, window_after}
+use Rattle.std.proofs.Math.Nat.{pow-suc, mul_assoc, mul-mod_left}
+use Rattle.s2_clock.specs.TickWindow.{bits_shown, miss_of, misses_in, window_after, window_fired}
 
 bit_miss : (r : ℕ) (b : Bool) → (r == 0) ≡ b → r < 2 → miss_of b ≡ r
 bit_miss r true e h = grind (arith, nat_tests)
@@ -75,3 +75,22 @@ bits_shown-shifted w fired =
     let half : x / 2 ≡ w % 2 ^ 63 = omega arith in
     ap (λ (y : ℕ). bits_shown 64 y) is ∙ (bits_step 63 x ∙ (ap (λ (b : Bool). b ∷ bits_shown 63 (x / 2)) bit ∙ (ap (λ (h : ℕ). fired ∷ bits_shown 63 h) half ∙
     ap (λ (l : List Bool). fired ∷ l) (bits_shown-low 63 w ∙ sym (take-bits_shown 63 64 w (omega arith))))))
+
+-- the word after so many firings
+or_nothing : (x : ℕ) → bit_or x 0 ≡ x
+or_nothing x = let same : x ≡ x * 2 ^ 0 = omega arith in let sum : x * 2 ^ 0 + 0 ≡ x = omega arith in ap (λ (y : ℕ). bit_or y 0) same ∙ (or_shifted x 0 0 (omega arith) ∙ sum)
+
+pub bits_shown-fired : (n w : ℕ) → bits_shown 64 (w * 2 ^ n % 2 ^ 64) ≡ window_fired n (bits_shown 64 w)
+bits_shown-fired zero w = let one : w * 2 ^ 0 ≡ w = omega arith in ap (λ (x : ℕ). bits_shown 64 (x % 2 ^ 64)) one ∙ bits_shown-low 64 w
+bits_shown-fired (suc n) w =
+    let half : ℕ = w * 2 ^ n % 2 ^ 64 in
+    let more : w * 2 ^ suc n ≡ w * 2 ^ n * 2 = ap (λ (y : ℕ). w * y) (pow-suc 2 n) ∙ sym (mul_assoc w (2 ^ n) 2) in
+    let twice : w * 2 ^ suc n % 2 ^ 64 ≡ half * 2 % 2 ^ 64 = ap (λ (y : ℕ). y % 2 ^ 64) more ∙ sym (mul-mod_first (w * 2 ^ n) 2 (2 ^ 64)) in
+    ap (λ (x : ℕ). bits_shown 64 x) (twice ∙ sym (or_nothing (half * 2 % 2 ^ 64))) ∙ (bits_shown-shifted half true ∙ ap (window_after true) (bits_shown-fired n w))
+
+pub bits_shown-long : (n w : ℕ) → 64 ≤ n → bits_shown 64 0 ≡ window_fired n (bits_shown 64 w)
+bits_shown-long n w h =
+    let all : n ≡ (n - 64) + 64 = omega arith in
+    let parts : w * 2 ^ n ≡ w * 2 ^ (n - 64) * 2 ^ 64 = ap (λ (k : ℕ). w * 2 ^ k) all ∙ (ap (λ (y : ℕ). w * y) (pow-add 2 (n - 64) 64) ∙ sym (mul_assoc w (2 ^ (n - 64)) (2 ^ 64))) in
+    let none : w * 2 ^ n % 2 ^ 64 ≡ 0 = ap (λ (y : ℕ). y % 2 ^ 64) parts ∙ mul-mod_left (w * 2 ^ (n - 64)) (2 ^ 64) in
+    ap (λ (x : ℕ). bits_shown 64 x) (sym none) ∙ bits_shown-fired n w

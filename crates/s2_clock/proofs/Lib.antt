@@ -1,2 +1,3 @@
 pub mod BitsShown
 pub mod FairWindows
+pub mod CoveredTicks

@@ -1,10 +1,10 @@
 -- The rule of fair clocks: no processor that is not tainted misses more than 4 of the last 64 ticks.
-use Rattle.std.specs.Prelude.{ℕ, ◌/◌, ◌%◌, ◌^◌, ◌==◌, ◌&&◌, ◌||◌, not, nat_lt, Bool, false, List, [], ◌∷◌, slice_index_or, Some, None, Ok, Err, if◌then◌else◌}
+use Rattle.std.specs.Prelude.{ℕ, zero, suc, ◌/◌, ◌%◌, ◌^◌, ◌==◌, ◌&&◌, ◌||◌, not, nat_lt, Bool, false, List, [], ◌∷◌, slice_index_or, Some, None, Ok, Err, if◌then◌else◌}
 use Rattle.std.specs.declared.option.Option.{Option}
 use Rattle.std.specs.declared.result.Result.{Result}
 use Rattle.s2_clock.specs.declared.numbers.TheConstants.{MISSES_ALLOWED}
 use Rattle.s2_clock.specs.declared.watch.Slow.{Slow}
-use Rattle.s2_clock.specs.TickWindow.{misses_in, window_after, fair_window}
+use Rattle.s2_clock.specs.TickWindow.{misses_in, window_after, window_fired, fair_window}
 
 -- whether a mask has processor p fire: bit p says so
 abbrev pub is_firing : ℕ → ℕ → Bool
@@ -31,6 +31,19 @@ window_next mask tainted windows p = window_after (is_recorded_as_fired mask tai
 abbrev pub windows_after : ℕ → Option ℕ → List (List Bool) → List (List Bool)
 windows_after mask tainted windows =
     window_next mask tainted windows 0 ∷ window_next mask tainted windows 1 ∷ window_next mask tainted windows 2 ∷ []
+
+-- the ticks of all three after so many ticks with a mask
+abbrev pub windows_run : ℕ → Option ℕ → ℕ → List (List Bool) → List (List Bool)
+windows_run mask tainted zero windows = windows
+windows_run mask tainted (suc n) windows = windows_after mask tainted (windows_run mask tainted n windows)
+
+-- the ticks of all three after so many ticks at which each is recorded as fired
+abbrev pub windows_fired : ℕ → List (List Bool) → List (List Bool)
+windows_fired n windows = window_fired n (window_at windows 0) ∷ window_fired n (window_at windows 1) ∷ window_fired n (window_at windows 2) ∷ []
+
+-- each processor fires with a mask, the tainted one aside: no clock is too slow for a tick with it
+abbrev pub is_covered : ℕ → Option ℕ → Bool
+is_covered mask tainted = is_recorded_as_fired mask tainted 0 && (is_recorded_as_fired mask tainted 1 && is_recorded_as_fired mask tainted 2)
 
 -- the ticks that a processor would have missed, this one included
 abbrev pub misses_after : ℕ → List (List Bool) → ℕ → ℕ

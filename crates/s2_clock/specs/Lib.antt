@@ -1,2 +1,3 @@
 pub mod TickWindow
 pub mod ClockWatch
+pub mod Frames

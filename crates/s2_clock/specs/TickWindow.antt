@@ -16,6 +16,11 @@ misses_in (fired ∷ before) = miss_of fired + misses_in before
 abbrev pub window_after : Bool → List Bool → List Bool
 window_after fired window = take WINDOW (fired ∷ window)
 
+-- the window after so many firings
+abbrev pub window_fired : ℕ → List Bool → List Bool
+window_fired zero window = window
+window_fired (suc n) window = window_after true (window_fired n window)
+
 -- the window of a processor that never missed a tick
 abbrev pub fair_window : List Bool
 fair_window = replicate WINDOW true

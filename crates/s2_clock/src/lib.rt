@@ -9,8 +9,10 @@ mod numbers;
 mod watch;
 mod window;
 
-pub use numbers::{FRAME, LONGEST_FRAME, MISSES_ALLOWED, REFRESH_FIRINGS, REFRESH_PERIOD, WINDOW};
-pub use watch::{Slow, Watch};
+pub use numbers::{
+    FRAME, LONGEST_FRAME, MISSES_ALLOWED, REFRESH_FIRINGS, REFRESH_PERIOD, SHORTEST_FRAME, WINDOW,
+};
+pub use watch::{Slow, Watch, covers};
 
 #[cfg(test)]
 mod tests;

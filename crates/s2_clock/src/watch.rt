@@ -1,7 +1,9 @@
 //! The watch over three clocks.
 
-ghost use Rattle.s2_clock.specs.ClockWatch.{is_firing, is_tainted, slow_at as slow_at_p, slow_of, fair_windows, tick_answer, watch_after, windows_after};
-ghost use Rattle.std.specs.Prelude.{◌≡◌, ◌<◌, None};
+ghost use Rattle.s2_clock.specs.ClockWatch.{is_covered, is_firing, is_recorded_as_fired, is_tainted, window_at, windows_fired, windows_run, slow_at as slow_at_p, slow_of, fair_windows, tick_answer, watch_after, windows_after};
+ghost use Rattle.s2_clock.specs.TickWindow.{misses_in};
+ghost use Rattle.s2_clock.specs.declared.numbers.TheConstants.{MISSES_ALLOWED};
+ghost use Rattle.std.specs.Prelude.{◌≡◌, ◌≢◌, ◌<◌, ◌≤◌, ℕ, None, true, length};
 
 use crate::numbers::MISSES_ALLOWED;
 use crate::window::TickWindow;
@@ -46,6 +48,21 @@ fn taints(tainted: Option<u8>, p: u8) -> bool
     ensures { result ≡ is_tainted tainted p }
 {
     tainted == Some(p)
+}
+
+/// Whether processor p is recorded as fired at a tick with a mask.
+fn is_recorded(mask: u8, tainted: Option<u8>, p: u8) -> bool
+    requires { p < 3 }
+    ensures { result ≡ is_recorded_as_fired mask tainted p }
+{
+    fires(mask, p) || taints(tainted, p)
+}
+
+/// Whether each processor fires at a tick with a mask, the tainted one aside: no such tick is refused.
+pub fn covers(mask: u8, tainted: Option<u8>) -> bool
+    ensures { result ≡ is_covered mask tainted }
+{
+    is_recorded(mask, tainted, 0) && is_recorded(mask, tainted, 1) && is_recorded(mask, tainted, 2)
 }
 
 impl Watch {
@@ -112,5 +129,50 @@ impl Watch {
         }
         self.record(mask, tainted);
         Ok(())
+    }
+
+    /// Records so many ticks at which each processor fired, or is recorded so.
+    fn fire(&mut self, n: u64)
+        ensures windows { self.new ≡ windows_fired n self.old }
+        ensures size { length self.old ≡ 3 }
+        ensures first { misses_in (window_at self.old 0) ≤ MISSES_ALLOWED }
+        ensures second { misses_in (window_at self.old 1) ≤ MISSES_ALLOWED }
+        ensures third { misses_in (window_at self.old 2) ≤ MISSES_ALLOWED }
+    {
+        self.windows[0].fire(n);
+        self.windows[1].fire(n);
+        self.windows[2].fire(n);
+    }
+
+    /// Records so many ticks with a mask at which each processor fires, the tainted one aside. None of them is
+    /// refused.
+    pub fn record_fired(&mut self, mask: u8, tainted: Option<u8>, n: u64)
+        requires covered { is_covered mask tainted ≡ true }
+        ensures windows { self.new ≡ windows_run mask tainted n self.old }
+        ensures lawful { (j : ℕ) → slow_of mask tainted (windows_run mask tainted j self.old) ≡ None }
+    {
+        self.fire(n);
+    }
+
+    /// Records the ticks with a mask that are not refused, at most so many, one after another; and how many these
+    /// are, fewer than were asked for exactly where the next would be refused.
+    pub fn run(&mut self, mask: u8, tainted: Option<u8>, n: u64) -> u64
+        requires { mask < 8 }
+        ensures few { result ≤ n }
+        ensures windows { self.new ≡ windows_run mask tainted result self.old }
+        ensures lawful { (j : ℕ) → j < result → slow_of mask tainted (windows_run mask tainted j self.old) ≡ None }
+        ensures refused { result < n → slow_of mask tainted self.new ≢ None }
+    {
+        if covers(mask, tainted) {
+            self.record_fired(mask, tainted, n);
+            return n;
+        }
+        for i in 0..n {
+            if self.slow(mask, tainted).is_some() {
+                return i;
+            }
+            self.record(mask, tainted);
+        }
+        n
     }
 }

@@ -1,9 +1,10 @@
 //! The last ticks of one processor, as a shift register.
 
 ghost use Rattle.s2_clock.specs.declared.numbers.TheConstants.{WINDOW, MISSES_ALLOWED};
-ghost use Rattle.s2_clock.specs.TickWindow.{bits_shown, misses_in, fair_window, window_after};
+ghost use Rattle.s2_clock.specs.TickWindow.{bits_shown, misses_in, fair_window, window_after, window_fired};
 ghost use Rattle.std.specs.Prelude.{◌≡◌, ◌≤◌, ◌||◌, false};
 
+use crate::numbers::WINDOW;
 use std::marker::Model;
 
 /// The last [`WINDOW`](crate::WINDOW) ticks of one processor, of which it missed at most
@@ -35,6 +36,13 @@ fn shifted(word: u64, fired: bool) -> u64
     (word << 1) | u64::from(!fired)
 }
 
+/// The bits after so many firings. The oldest are shifted out.
+fn fired(word: u64, n: u64) -> u64
+    ensures { bits_shown WINDOW result ≡ window_fired n (bits_shown WINDOW word) }
+{
+    if n < WINDOW as u64 { word << n } else { 0 }
+}
+
 /// How many misses the bits show.
 fn misses(word: u64) -> u8
     ensures value { result ≡ misses_in (bits_shown WINDOW word) }
@@ -64,5 +72,13 @@ impl TickWindow {
         ensures { self.new ≡ window_after (fired || tainted) self.old }
     {
         self.word = shifted(self.word, fired || tainted);
+    }
+
+    /// Records so many ticks at which it fired. The oldest are forgotten.
+    pub fn fire(&mut self, n: u64)
+        ensures window { self.new ≡ window_fired n self.old }
+        ensures fair { misses_in self.old ≤ MISSES_ALLOWED }
+    {
+        self.word = fired(self.word, n);
     }
 }

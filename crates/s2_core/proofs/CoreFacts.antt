@@ -10,6 +10,7 @@ use Rattle.s2_base.specs.declared.places.Place.TheVariants.{Local as LocalPlace,
 use Rattle.s2_ports.specs.declared.requests.Request.{Request}
 use Rattle.s2_store.specs.declared.store.TheConstants.{PAGE_WORDS}
 use Rattle.s2_cpu.specs.Processor.{Processor}
+use Rattle.s2_core.proofs.PrivateAccess.{access_keeps_slots}
 use Rattle.s2_machine.specs.Machine.{Machine}
 use Rattle.s2_machine.specs.WriteBack.{after_step}
 use Rattle.s2_machine.specs.InstructionRows.{step_of}
@@ -78,6 +79,29 @@ kind_by p ReadEntry r e = absurd cc
 kind_by p (WriteEntry index) r e = absurd cc
 kind_by p ProbeEntry r e = absurd cc
 kind_by p Restore r e = absurd cc
+
+-- and its run count
+run_at : (place : Place) (q r : Request) → ask_at place q ≡ Outside r → r.run ≡ q.run
+run_at (Global i) q r e = ap (λ (x : Request). x.run) (sym (same_request q r e))
+run_at (DevicePlace k) q r e = ap (λ (x : Request). x.run) (sym (same_request q r e))
+run_at (LocalPlace i) q r e = absurd cc
+run_at (Boot i) q r e = absurd cc
+run_at Nowhere q r e = absurd cc
+
+run_by : (p : Processor) (s : Step) (r : Request) → ask_of_step p s ≡ Outside r → r.run ≡ p.run
+run_by p (Load op reg byte address place) r e = run_at place (load_request p address) r e
+run_by p (Store word mask address place) r e = run_at place (store_request p address word mask) r e
+run_by p (Raise exc) r e = absurd cc
+run_by p Proceed r e = absurd cc
+run_by p (Set reg value) r e = absurd cc
+run_by p (SetHiLo hi lo) r e = absurd cc
+run_by p (Jump target link) r e = absurd cc
+run_by p (Delay reg value) r e = absurd cc
+run_by p (SetControl reg value) r e = absurd cc
+run_by p ReadEntry r e = absurd cc
+run_by p (WriteEntry index) r e = absurd cc
+run_by p ProbeEntry r e = absurd cc
+run_by p Restore r e = absurd cc
 
 -- the lists keep their lengths
 stored_length : (local : List ℕ) (place : Place) (word mask : ℕ) → length (local_stored_at local place word mask) ≡ length local
@@ -155,6 +179,8 @@ r2000_core = record {
   run_after_finish = λ p local r word lines h. written_run p (step_of p local) word;
   lines_after_finish = λ p local r word lines h. refl;
   ask_kind = λ p local r h. kind_by p (step_of p local) r h;
+  ask_run = λ p local r h. run_by p (step_of p local) r h;
+  slots = access_keeps_slots;
   length_after_turn = λ p local h. length_after local (step_of p local);
   marks_length_after_turn = λ p local marks h. marks_length_after marks (step_of p local);
   unmarked = λ p local marks page h size pages no_mark. unmarked_after marks (step_of p local) page no_mark;

@@ -1,5 +1,6 @@
 pub mod CaseOrder
 pub mod ForeignUnits
+pub mod PrivateAccess
 pub mod CoreFacts
 pub mod CarriedOut
 pub mod NearWords

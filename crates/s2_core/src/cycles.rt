@@ -2,7 +2,8 @@
 
 ghost use Rattle.std.specs.Prelude.{◌≡◌, ◌≢◌, ◌<◌, length, if◌then◌else◌};
 ghost use Rattle.s2_machine.specs.LocalWork.{ask_of, after_turn, local_after_turn, marks_after_turn, after_finish};
-ghost use Rattle.s2_machine.specs.StepRanges.{HasMask};
+ghost use Rattle.s2_machine.specs.StepRanges.{HasMask, IsSound};
+ghost use Rattle.s2_machine.specs.WriteBack.{after_step, with_lines};
 ghost use Rattle.s2_core.specs.Working.{unless_asked, is_local};
 
 use crate::execution::carry_out_cycle;
@@ -11,7 +12,7 @@ use crate::local_work::ask_of;
 use crate::write_back::write_back;
 use s2_base::LOCAL_WORDS;
 use s2_cpu::Cpu;
-use s2_machine::Ask;
+use s2_machine::{Ask, Step};
 use s2_ports::Reply;
 use s2_store::Store;
 
@@ -75,6 +76,15 @@ pub fn finish<S: Store>(cpu: &mut Cpu, store: &mut S, reply: Reply)
     ensures rest { S.rest store.new ≡ S.rest store.old }
 {
     let step = step(cpu, store);
+    finish_step(cpu, step, reply);
+}
+
+/// Ends a cycle that does this step, with the access's answer as for [`finish`].
+pub fn finish_step(cpu: &mut Cpu, step: Step, reply: Reply)
+    requires sound { IsSound step }
+    requires lines { reply.lines < 4 }
+    ensures { cpu.new ≡ with_lines (after_step cpu.old step reply.word) reply.lines }
+{
     write_back(cpu, step, reply.word);
     cpu.lines = reply.lines;
 }

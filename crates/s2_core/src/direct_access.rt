@@ -1,18 +1,17 @@
 //! The loads and stores, carried out directly where they ask nothing. Each function says whether it was.
 
-ghost use Rattle.std.specs.Prelude.{◌≡◌, ◌<◌, ℕ, Bool, true, List, length};
+ghost use Rattle.std.specs.Prelude.{◌≡◌, ◌<◌, ◌*◌, ◌%◌, ℕ, Bool, true, List, length};
 ghost use Rattle.s2_machine.specs.MemoryAccess.{effective_address};
 ghost use Rattle.s2_machine.specs.StepRanges.{IsPlaced};
-ghost use Rattle.s2_core.specs.Kseg0.{accesses_near};
 ghost use Rattle.s2_core.specs.TestOrder.{isolated_step, access_step, reached_step};
 ghost use Rattle.s2_core.specs.Working.{IsCarriedOut, IsReach};
 
-use crate::kseg0::{accesses_near, near_index};
 use crate::local_work::store_word;
 use crate::memory_access::{access_of, stored_mask, stored_word};
 use crate::reach::{Reach, effective_address, reach_virtual};
+use crate::recalled::{leaves, local_access};
 use crate::write_back::{follow, load, raised};
-use s2_base::{LOCAL_WORDS, Place};
+use s2_base::{LOCAL_MEMORY_WORDS, LOCAL_WORDS, Place};
 use s2_cpu::Cpu;
 use s2_decode::OpM;
 use s2_machine::Step;
@@ -140,10 +139,18 @@ fn access_reached<S: Store>(
     }
 }
 
-/// A load or store of local memory by kseg0.
+/// A load or store of the word of local memory at this index.
 #[inline(always)]
-fn access_near<S: Store>(cpu: &mut Cpu, store: &mut S, op: OpM, rt: u8, va: u32) -> bool
-    requires near { accesses_near cpu.old op va ≡ true }
+fn access_recalled<S: Store>(
+    cpu: &mut Cpu,
+    store: &mut S,
+    op: OpM,
+    rt: u8,
+    va: u32,
+    index: u32,
+) -> bool
+    requires index { index < LOCAL_MEMORY_WORDS }
+    requires reached { reached_step cpu.old op rt (va % 4) (Reach.At (index * 4) (Place.Local index)) ≡ access_step cpu.old op rt va }
     requires rt { rt < 32 }
     requires words { length (S.words store.now) ≡ LOCAL_WORDS }
     ensures done { IsCarriedOut cpu.old (S.words store.old) (S.marks store.old) (access_step cpu.old op rt va) result
@@ -151,13 +158,44 @@ fn access_near<S: Store>(cpu: &mut Cpu, store: &mut S, op: OpM, rt: u8, va: u32)
     ensures size { length (S.words store.new) ≡ length (S.words store.old) }
     ensures rest { S.rest store.new ≡ S.rest store.old }
 {
-    let place = Place::Local(near_index(va));
-    access_at(cpu, store, op, rt, (va % 4) as u8, place)
+    access_at(cpu, store, op, rt, (va % 4) as u8, Place::Local(index))
+}
+
+/// A load or store, whatever it reaches; its page is remembered.
+#[cold]
+#[inline(never)]
+fn access_found<S: Store>(cpu: &mut Cpu, store: &mut S, op: OpM, rt: u8, va: u32) -> bool
+    requires rt { rt < 32 }
+    requires words { length (S.words store.now) ≡ LOCAL_WORDS }
+    ensures done { IsCarriedOut cpu.old (S.words store.old) (S.marks store.old) (access_step cpu.old op rt va) result
+        cpu.new (S.words store.new) (S.marks store.new) }
+    ensures size { length (S.words store.new) ≡ length (S.words store.old) }
+    ensures rest { S.rest store.new ≡ S.rest store.old }
+{
+    cpu.remember(va);
+    access_anywhere(cpu, store, op, rt, va)
+}
+
+/// A load or store that is not one of local memory by kseg0 or by a page that is remembered.
+#[cold]
+#[inline(never)]
+fn access_mapped<S: Store>(cpu: &mut Cpu, store: &mut S, op: OpM, rt: u8, va: u32) -> bool
+    requires rt { rt < 32 }
+    requires words { length (S.words store.now) ≡ LOCAL_WORDS }
+    ensures done { IsCarriedOut cpu.old (S.words store.old) (S.marks store.old) (access_step cpu.old op rt va) result
+        cpu.new (S.words store.new) (S.marks store.new) }
+    ensures size { length (S.words store.new) ≡ length (S.words store.old) }
+    ensures rest { S.rest store.new ≡ S.rest store.old }
+{
+    if leaves(cpu, op, va) {
+        false
+    } else {
+        access_found(cpu, store, op, rt, va)
+    }
 }
 
 /// A load or store, whatever it reaches.
-#[cold]
-#[inline(never)]
+#[inline(always)]
 fn access_anywhere<S: Store>(cpu: &mut Cpu, store: &mut S, op: OpM, rt: u8, va: u32) -> bool
     requires rt { rt < 32 }
     requires words { length (S.words store.now) ≡ LOCAL_WORDS }
@@ -180,10 +218,10 @@ fn access_virtual<S: Store>(cpu: &mut Cpu, store: &mut S, op: OpM, rt: u8, va: u
     ensures size { length (S.words store.new) ≡ length (S.words store.old) }
     ensures rest { S.rest store.new ≡ S.rest store.old }
 {
-    if accesses_near(cpu, op, va) {
-        access_near(cpu, store, op, rt, va)
+    if let Some(index) = local_access(cpu, op, va) {
+        access_recalled(cpu, store, op, rt, va, index)
     } else {
-        access_anywhere(cpu, store, op, rt, va)
+        access_mapped(cpu, store, op, rt, va)
     }
 }
 

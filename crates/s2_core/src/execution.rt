@@ -1,7 +1,7 @@
 //! A cycle carried out at once, where it asks nothing of the outside; where it asks, nothing changes. Each function
 //! says whether it was carried out.
 
-ghost use Rattle.std.specs.Prelude.{◌≡◌, true, length, IfErr};
+ghost use Rattle.std.specs.Prelude.{◌≡◌, ◌<◌, true, length, slice_index, Ok, IfErr};
 ghost use Rattle.s2_cpu.specs.Exceptions.{IsException};
 ghost use Rattle.s2_decode.specs.Properness.{IsProper};
 ghost use Rattle.s2_decode.specs.Table.{decoded};
@@ -16,9 +16,10 @@ use crate::direct_access::{access_memory, load_at, store_at};
 use crate::direct_rows::{branch, computed, jump, jump_to_register, set_or_overflow};
 use crate::fetch::fetch;
 use crate::instruction_rows::{execute, interrupted};
-use crate::kseg0::{near_fetch, quiet_fetch};
+use crate::kseg0::near_fetch;
+use crate::recalled::{local_fetch, recalled_fetch};
 use crate::write_back::{raised, write_back};
-use s2_base::LOCAL_WORDS;
+use s2_base::{LOCAL_MEMORY_WORDS, LOCAL_WORDS};
 use s2_cp0::INT;
 use s2_cpu::{Cpu, Exc};
 use s2_decode::{Instr, decode, fields};
@@ -153,9 +154,40 @@ fn carry_out_near<S: Store>(cpu: &mut Cpu, store: &mut S, index: u32) -> bool
     carry_out_row(cpu, store, word)
 }
 
-/// The next cycle, wherever its instruction is fetched.
+/// The next cycle, whose instruction is fetched from the word of local memory at this index.
+#[inline(always)]
+fn carry_out_recalled<S: Store>(cpu: &mut Cpu, store: &mut S, index: u32) -> bool
+    requires index { index < LOCAL_MEMORY_WORDS }
+    requires fetched { fetch_outcome cpu.old (S.words store.old) ≡ Ok (slice_index (S.words store.old) index) }
+    requires words { length (S.words store.now) ≡ LOCAL_WORDS }
+    ensures done { IsCarriedOut cpu.old (S.words store.old) (S.marks store.old)
+        (step_of_fetch cpu.old (fetch_outcome cpu.old (S.words store.old))) result
+        cpu.new (S.words store.new) (S.marks store.new) }
+    ensures size { length (S.words store.new) ≡ length (S.words store.old) }
+    ensures rest { S.rest store.new ≡ S.rest store.old }
+{
+    let word = store.word(index);
+    carry_out_row(cpu, store, word)
+}
+
+/// The next cycle, wherever its instruction is fetched; its page is remembered.
 #[cold]
 #[inline(never)]
+fn carry_out_found<S: Store>(cpu: &mut Cpu, store: &mut S) -> bool
+    requires { length (S.words store.now) ≡ LOCAL_WORDS }
+    ensures done { IsCarriedOut cpu.old (S.words store.old) (S.marks store.old)
+        (step_of_fetch cpu.old (fetch_outcome cpu.old (S.words store.old))) result
+        cpu.new (S.words store.new) (S.marks store.new) }
+    ensures size { length (S.words store.new) ≡ length (S.words store.old) }
+    ensures rest { S.rest store.new ≡ S.rest store.old }
+{
+    let pc = cpu.pc;
+    cpu.remember(pc);
+    carry_out_anywhere(cpu, store)
+}
+
+/// The next cycle, wherever its instruction is fetched.
+#[inline(always)]
 fn carry_out_anywhere<S: Store>(cpu: &mut Cpu, store: &mut S) -> bool
     requires { length (S.words store.now) ≡ LOCAL_WORDS }
     ensures done { IsCarriedOut cpu.old (S.words store.old) (S.marks store.old)
@@ -180,8 +212,10 @@ fn carry_out_instruction<S: Store>(cpu: &mut Cpu, store: &mut S) -> bool
 {
     if let Some(index) = near_fetch(cpu) {
         carry_out_near(cpu, store, index)
+    } else if let Some(index) = recalled_fetch(cpu) {
+        carry_out_recalled(cpu, store, index)
     } else {
-        carry_out_anywhere(cpu, store)
+        carry_out_found(cpu, store)
     }
 }
 
@@ -210,8 +244,8 @@ pub fn carry_out_cycle<S: Store>(cpu: &mut Cpu, store: &mut S) -> bool
     ensures size { length (S.words store.new) ≡ length (S.words store.old) }
     ensures rest { S.rest store.new ≡ S.rest store.old }
 {
-    if let Some(index) = quiet_fetch(cpu) {
-        carry_out_near(cpu, store, index)
+    if let Some(index) = local_fetch(cpu) {
+        carry_out_recalled(cpu, store, index)
     } else {
         carry_out_tested(cpu, store)
     }

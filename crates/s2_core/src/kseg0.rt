@@ -2,7 +2,7 @@
 //! one comparison tells it, without the segments and the map.
 
 ghost use Rattle.std.specs.Prelude.{◌≡◌, ◌<◌, ◌≤◌, ◌-◌, ◌%◌, ◌/◌, ◌==◌, ◌&&◌, nat_lt, Some, None, if◌then◌else◌};
-ghost use Rattle.s2_base.specs.declared.map.TheConstants.{LOCAL_END, LOCAL_WORDS, LOCAL_MEMORY_WORDS, UNMAPPED_START};
+ghost use Rattle.s2_base.specs.declared.map.TheConstants.{LOCAL_END, LOCAL_MEMORY_WORDS, UNMAPPED_START};
 ghost use Rattle.s2_core.specs.Kseg0.{is_local, is_near, near_index, fetches_near, fetches_quietly, accesses_near};
 
 use crate::reach::is_aligned;
@@ -32,7 +32,7 @@ pub fn near_index(va: u32) -> u32
     requires from { UNMAPPED_START ≤ va }
     requires to { va - UNMAPPED_START < LOCAL_END }
     ensures index { result ≡ near_index va }
-    ensures within { result < LOCAL_WORDS }
+    ensures within { result < LOCAL_MEMORY_WORDS }
 {
     (va - UNMAPPED_START) / 4
 }

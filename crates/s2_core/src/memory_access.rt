@@ -137,7 +137,8 @@ fn isolated(cpu: &Cpu, op: OpM, rt: u8, byte: u8) -> Step
 }
 
 /// The step of a row, by what it reaches.
-fn reached_step(cpu: &Cpu, op: OpM, rt: u8, byte: u8, reach: Reach) -> Step
+#[inline(always)]
+pub fn reached_step(cpu: &Cpu, op: OpM, rt: u8, byte: u8, reach: Reach) -> Step
     requires rt { rt < 32 }
     requires byte { byte < 4 }
     requires reach { IsReach reach }

@@ -83,7 +83,7 @@ fn reach_place(op: OpM, address: u32, place: Place) -> Reach
 
 /// What a row reaches at a physical address.
 #[inline(always)]
-fn reach_address(cpu: &Cpu, op: OpM, pa: u32) -> Reach
+pub fn reach_address(cpu: &Cpu, op: OpM, pa: u32) -> Reach
     ensures step { (rt byte : ℕ) → reached_step cpu.now op rt byte result ≡ addressed_step cpu.now op rt byte pa }
     ensures sound { IsReach result }
 {

@@ -1,14 +1,15 @@
 -- What each step of the registers keeps: no set bit but those of its mask.
 use Rattle.std.proofs.Common.{◌≡◌, ℕ, ◌+◌, ◌*◌, ◌/◌, ◌%◌, ◌^◌, ◌<◌, refl, arith, subst}
-use Rattle.std.specs.Prelude.{Bool, true, false, Option, Some, None, IfSome, bit_and, if◌then◌else◌}
+use Rattle.std.specs.Prelude.{◌==◌, Bool, true, false, Option, Some, None, IfSome, bit_and, if◌then◌else◌}
 use Rattle.std.proofs.lemmas.Nat.Bits.{and_high}
 use Rattle.s2_base.specs.declared.masks.TheConstants.{ENTRY_HI_BITS, ENTRY_LO_BITS}
 use Rattle.s2_cp0.specs.declared.masks.TheConstants.{INDEX_BITS, CONTEXT_BITS, STATUS_BITS, CAUSE_BITS, CAUSE_WRITTEN}
+use Rattle.s2_cp0.specs.declared.codes.TheConstants.{CPU}
 use Rattle.s2_cp0.specs.declared.kept.KeptRegister.{KeptRegister}
 use Rattle.s2_cp0.specs.declared.kept.KeptRegister.TheVariants.{Index, EntryLo, Context, BadVAddr, EntryHi, Status, Cause, Epc}
 use Rattle.s2_cp0.specs.ControlRegisters.{ControlRegisters, IsWithin, HasKeptBits}
 use Rattle.s2_cp0.specs.ControlRegisterAccess.{probed, register_loaded}
-use Rattle.s2_cp0.specs.ExceptionEntry.{pushed, popped, cause_of}
+use Rattle.s2_cp0.specs.ExceptionEntry.{pushed, popped, cause_of, coprocessor_of}
 use Rattle.s2_cp0.proofs.MaskBits.{within_and, within_block, within_ones, within_low}
 
 -- another Status, another Index and another Cause
@@ -51,15 +52,27 @@ fields_within branch_delay unit software code bd ce sw exc =
     let same : (branch_delay * 2 ^ 3 + unit) * 2 ^ 28 + (software * 2 ^ 8 + (code * 2 ^ 2 + 0)) ≡ branch_delay * 2 ^ 31 + unit * 2 ^ 28 + software * 2 ^ 8 + code * 4 = omega arith in
     subst (λ (x : ℕ). IsWithin x CAUSE_BITS) same whole
 
+-- the coprocessor's number is one of four
+coprocessor_low : (code unit : ℕ) → unit < 4 → coprocessor_of code unit < 4
+coprocessor_low code unit low = by_code (code == CPU)
+  where
+    by_code : (b : Bool) → (if b then unit else 0) < 4
+    by_code true = low
+    by_code false = omega arith
+
 -- Cause of an exception
 pub cause-within : (old code unit : ℕ) (in_slot : Bool) → code < 16 → unit < 4 → IsWithin (cause_of old code unit in_slot) CAUSE_BITS
 cause-within old code unit in_slot exc ce =
     let software : bit_and old CAUSE_WRITTEN ≡ old / 2 ^ 8 % 2 ^ 2 * 2 ^ 8 = and_high old 2 8 in
     rw software (cases in_slot)
   where
-    cases : (b : Bool) → IsWithin ((if b then 2 ^ 31 else 0) + unit * 2 ^ 28 + old / 2 ^ 8 % 2 ^ 2 * 2 ^ 8 + code * 4) CAUSE_BITS
-    cases true = fields_within 1 unit (old / 2 ^ 8 % 2 ^ 2) code (omega arith) ce (omega arith) exc
-    cases false = fields_within 0 unit (old / 2 ^ 8 % 2 ^ 2) code (omega arith) ce (omega arith) exc
+    low : coprocessor_of code unit < 4
+    low = coprocessor_low code unit ce
+
+    cases : (b : Bool) →
+        IsWithin ((if b then 2 ^ 31 else 0) + coprocessor_of code unit * 2 ^ 28 + old / 2 ^ 8 % 2 ^ 2 * 2 ^ 8 + code * 4) CAUSE_BITS
+    cases true = fields_within 1 (coprocessor_of code unit) (old / 2 ^ 8 % 2 ^ 2) code (omega arith) low (omega arith) exc
+    cases false = fields_within 0 (coprocessor_of code unit) (old / 2 ^ 8 % 2 ^ 2) code (omega arith) low (omega arith) exc
 
 -- a loaded word; for those who load the registers as plain data
 pub HasKeptBits-register_loaded : (c : ControlRegisters) (register : KeptRegister) (word : ℕ) → HasKeptBits c → HasKeptBits (register_loaded c register word)

@@ -6,9 +6,9 @@ ghost use Rattle.s2_base.specs.declared.masks.TheConstants.{ENTRY_HI_BITS, ENTRY
 ghost use Rattle.s2_cp0.specs.declared.masks.TheConstants.{CAUSE_BITS};
 ghost use Rattle.s2_cp0.specs.ControlRegisters.{blank_registers, IsWithin, HasKeptBits, is_user, is_isolated, has_boot_vectors, is_open_to_users, is_usable, cause_with, is_interrupted, space_of, indexed_entry, random_entry};
 ghost use Rattle.s2_cp0.specs.ControlRegisterAccess.{control_read, replaced_bits, control_written, kept_word, register_loaded, probed, entry_loaded};
-ghost use Rattle.s2_cp0.specs.ExceptionEntry.{pushed, popped, cause_of, address_noted, raised};
+ghost use Rattle.s2_cp0.specs.ExceptionEntry.{pushed, popped, cause_of, coprocessor_of, address_noted, raised};
 
-use crate::codes::{MOD, TLBL, TLBS};
+use crate::codes::{CPU, MOD, TLBL, TLBS};
 use crate::kept::KeptRegister;
 use crate::masks::{
     BRANCH_DELAY, CAUSE_BITS, CAUSE_WRITTEN, CONTEXT_BITS, CONTEXT_WRITTEN, INDEX_BITS,
@@ -199,8 +199,8 @@ impl Cp0 {
         self.status % 2 == 1 && (self.cause_with(lines) & self.status & INTERRUPT_BITS) != 0
     }
 
-    /// An exception: `code` is ExcCode, below 16; `unit` the coprocessor's number, below 4, which is 0 but
-    /// for `CPU`; `bad` the virtual address that the exception has, if any; `return_to` the virtual
+    /// An exception: `code` is ExcCode, below 16; `unit` the coprocessor's number, below 4, which counts
+    /// for `CPU` alone; `bad` the virtual address that the exception has, if any; `return_to` the virtual
     /// address that it returns to; and `in_slot` says whether it came in a delay slot.
     ///
     /// Source: MIPS R2000, the exceptions; what it leaves where the manual is open is this project's own.
@@ -328,7 +328,17 @@ pub fn random_index(run: u64) -> u32
     (RANDOM_START - run % RANDOM_PERIOD) as u32
 }
 
-/// Cause of an exception, by what it was, `old`: `code` is ExcCode, below 16, and `unit` CE, below 4.
+/// CE of an exception: the coprocessor's number `unit`, below 4, for CpU, and 0 for every other code.
+fn coprocessor_of(code: u8, unit: u8) -> u8
+    requires { unit < 4 }
+    ensures value { result ≡ coprocessor_of code unit }
+    ensures low { result < 4 }
+{
+    if code == CPU { unit } else { 0 }
+}
+
+/// Cause of an exception, by what it was, `old`: `code` is ExcCode, below 16, and `unit` a coprocessor's number,
+/// below 4.
 fn exception_cause(old: u32, code: u8, unit: u8, in_slot: bool) -> u32
     requires code { code < 16 }
     requires unit { unit < 4 }
@@ -336,7 +346,8 @@ fn exception_cause(old: u32, code: u8, unit: u8, in_slot: bool) -> u32
     ensures within { IsWithin result CAUSE_BITS }
 {
     let branch_delay = if in_slot { BRANCH_DELAY } else { 0 };
-    branch_delay + u32::from(unit) * 0x1000_0000 + (old & CAUSE_WRITTEN) + u32::from(code) * 4
+    let number = u32::from(coprocessor_of(code, unit));
+    branch_delay + number * 0x1000_0000 + (old & CAUSE_WRITTEN) + u32::from(code) * 4
 }
 
 /// The word `old` with the bits of `mask` taken from `new`.

@@ -87,5 +87,7 @@ fn a_store_that_finds_no_entry_leaves_its_page(rt: HostRuntime) {
     assert_eq!(rt; cp0.read(13, 0, 0), 0x8000_020C);
     cp0.raise(CPU, 3, None, 0x8001_0000, false);
     assert_eq!(rt; cp0.read(13, 0, 0), 0x3000_022C);
+    cp0.raise(INT, 3, None, 0x8001_0000, false);
+    assert_eq!(rt; cp0.read(13, 0, 0), 0x0000_0200);
     assert_eq!(rt; cp0.read(8, 0, 0), 0x8765_4321);
 }

@@ -54,6 +54,13 @@ impl Regs {
         self.words[0] = 0;
     }
 
+    /// The registers become those of another processor.
+    pub fn copy_from(&mut self, other: &Regs)
+        ensures { self.new ≡ other.now }
+    {
+        self.words = other.words;
+    }
+
     /// What the general registers are: 32 words, of which the first is 0. It does nothing, and tells a caller
     /// so of the registers that it holds.
     pub fn well_formed(&self)

@@ -84,6 +84,24 @@ impl Cpu {
         }
     }
 
+    /// The state becomes that of another processor. It takes no memory.
+    pub fn copy_from(&mut self, other: &Cpu)
+        ensures { self.new ≡ other.now }
+    {
+        self.r.copy_from(&other.r);
+        self.hi = other.hi;
+        self.lo = other.lo;
+        self.pc = other.pc;
+        self.npc = other.npc;
+        self.slot = other.slot;
+        self.load_reg = other.load_reg;
+        self.load_value = other.load_value;
+        self.cp0 = other.cp0;
+        self.tlb.copy_from(&other.tlb);
+        self.run = other.run;
+        self.lines = other.lines;
+    }
+
     /// What every processor keeps: the pending load's register is one of the 32, and there are two lines.
     pub fn within_ranges(&self)
         ensures load_reg { self.now.load_reg < 32 }

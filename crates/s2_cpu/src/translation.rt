@@ -1,6 +1,6 @@
 //! The translation of virtual addresses.
 
-ghost use Rattle.std.specs.Prelude.{◌≡◌, ◌↔◌, IfErr, Ok};
+ghost use Rattle.std.specs.Prelude.{◌≡◌, ◌↔◌, IfErr, IfSome, Ok};
 ghost use Rattle.s2_cpu.specs.Exceptions.{IsException};
 ghost use Rattle.s2_cpu.specs.Translation.{translated, segment_of};
 
@@ -21,11 +21,44 @@ impl Cpu {
         ensures value { result ≡ translated self.now va access }
         ensures sound { IfErr result IsException }
     {
+        if let Some(pa) = self.recall(va, access) {
+            return Ok(pa);
+        }
         match segment(va, self.cp0.is_user()) {
             Segment::Denied => Err(Exc::address_error(access, va)),
             Segment::Direct(pa) => Ok(pa),
             Segment::Mapped => self.look_up(va, access),
         }
+    }
+
+    /// The physical address of an address of kuseg whose page the translation lookaside buffer remembers, where
+    /// the access is allowed; it may have forgotten any page.
+    #[inline(always)]
+    pub fn recall(&self, va: u32, access: Access) -> Option<u32>
+        ensures { IfSome result (λ pa. translated self.now va access ≡ Ok pa) }
+    {
+        if va >= UNMAPPED_START {
+            return None;
+        }
+        self.recall_mapped(va, access)
+    }
+
+    /// The same for an address of a mapped segment.
+    #[inline(always)]
+    fn recall_mapped(&self, va: u32, access: Access) -> Option<u32>
+        requires { segment_of self.now va ≡ Segment.Mapped }
+        ensures { IfSome result (λ pa. translated self.now va access ≡ Ok pa) }
+    {
+        self.tlb.recall(va, self.cp0.asid(), access.is_store())
+    }
+
+    /// Lets the translation lookaside buffer remember the page of an address. What is seen of the processor stays
+    /// as it is.
+    pub fn remember(&mut self, va: u32)
+        ensures { self.new ≡ self.old }
+    {
+        let asid = self.cp0.asid();
+        self.tlb.remember(va, asid);
     }
 
     /// The same for an address of a mapped segment.

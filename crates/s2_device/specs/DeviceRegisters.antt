@@ -1,6 +1,6 @@
 -- The device registers: what a load of each gives, and what a store to it does.
 use Rattle.std.specs.Prelude.{ℕ, ◌+◌, ◌%◌, ◌==◌, Bool, false, List, [], ◌∷◌, length, drop, Some, None, if◌then◌else◌}
-use Rattle.s2_base.specs.declared.devices.TheConstants.{CONOUT, CONIN, CONSTAT, TICKS, TIMACK, HALT}
+use Rattle.s2_base.specs.declared.devices.TheConstants.{CONOUT, CONIN, CONSTAT, TICKS, TIMACK, HALT, PRIV, PRIV0, PRIV1, PRIV2}
 use Rattle.s2_device.specs.DeviceState.{Device}
 use Rattle.s2_device.specs.declared.numbers.TheConstants.{NO_BYTE, OVERRUN}
 use Rattle.s2_device.specs.declared.effect.Effect.{Effect}
@@ -36,6 +36,10 @@ without_oldest d = record d { waiting = drop 1 d.waiting }
 abbrev pub console_state : Device → ℕ
 console_state d = length d.waiting + (if d.overrun then OVERRUN else 0)
 
+-- the private values that were delivered last are in the slots
+abbrev pub with_private_values : Device → Device
+with_private_values d = record d { slots = d.next }
+
 -- a row of the table: what a load does, and what a store does
 abbrev pub register_row : Bool → DeviceAccess → DeviceAccess → DeviceAccess
 register_row store load_access store_access = if store then store_access else load_access
@@ -49,4 +53,8 @@ device_access d k store word =
     else if k == TICKS then register_row store (load_of d.ticks d) (silent_store d)
     else if k == TIMACK then register_row store (load_of 0 d) (silent_store (record d { timer = false }))
     else if k == HALT then register_row store (load_of 0 d) (halt_store word d)
+    else if k == PRIV then register_row store (load_of 0 d) (silent_store (with_private_values d))
+    else if k == PRIV0 then register_row store (load_of d.slots.a d) (silent_store d)
+    else if k == PRIV1 then register_row store (load_of d.slots.b d) (silent_store d)
+    else if k == PRIV2 then register_row store (load_of d.slots.c d) (silent_store d)
     else silent_store d

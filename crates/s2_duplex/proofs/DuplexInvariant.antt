@@ -1,5 +1,6 @@
 -- The calls keep the invariant of the boards, and what they do to the contents.
 use Rattle.std.proofs.Common.{◌≡◌, ℕ, ◌<◌, List, length, refl, sym, ap, subst, inl, inr, ◌∙◌, length-set}
+use Rattle.std.proofs.lemmas.List.{get_or-set_same}
 use Rattle.std.specs.Prelude.{Bool, true, false, ◌&&◌, None, slice_index_or, slice_set, if◌then◌else◌}
 use Rattle.s2_base.specs.declared.map.TheConstants.{GLOBAL_WORDS}
 use Rattle.s2_ports.specs.declared.events.BoardFault.{BoardFault}
@@ -9,7 +10,7 @@ use Rattle.s2_duplex.proofs.ValidWords.{clash, length_contents, valid_word_is, c
 use Rattle.s2_duplex.proofs.FaultedBoards.{fault_stands}
 
 -- boards that stand for a list of the right length are those of global memory
-duplex_is : (s : BoardPair) (list : List ℕ) → length list ≡ GLOBAL_WORDS → StandsFor s list → IsDuplex s
+pub duplex_is : (s : BoardPair) (list : List ℕ) → length list ≡ GLOBAL_WORDS → StandsFor s list → IsDuplex s
 duplex_is s list size stands = record { size = stands.first.words ∙ size; stands = subst (StandsFor s) (sym (contents_are s list stands)) stands }
 
 pub length_is : (s : BoardPair) → IsDuplex s → length (contents s) ≡ GLOBAL_WORDS
@@ -39,6 +40,12 @@ written_contents s i word h d = contents_are (boards_written s i word) (slice_se
 
 pub valid_in_contents : (s : BoardPair) (i : ℕ) → i < GLOBAL_WORDS → IsDuplex s → valid_word s i ≡ slice_index_or (contents s) i 0
 valid_in_contents s i h d = valid_word_is s (contents s) i (in_contents s i h d) d.stands
+
+-- the word that was written is valid
+pub written_valid : (s : BoardPair) (i word : ℕ) → i < GLOBAL_WORDS → IsDuplex s → valid_word (boards_written s i word) i ≡ word
+written_valid s i word h d =
+    valid_in_contents (boards_written s i word) i h (written_duplex s i word h d) ∙
+    (ap (λ (list : List ℕ). slice_index_or list i 0) (written_contents s i word h d) ∙ get_or-set_same (contents s) i word 0 (in_contents s i h d))
 
 pub faulted_duplex : (s : BoardPair) (fault : BoardFault) → IsFaultBelow GLOBAL_WORDS fault → IsDuplex s → IsDuplex (boards_faulted s fault)
 faulted_duplex s fault h d =

@@ -4,3 +4,4 @@ pub mod PackedUnits
 pub mod ValidWords
 pub mod FaultedBoards
 pub mod DuplexInvariant
+pub mod MendedBoards

@@ -3,3 +3,4 @@ pub mod ParityUnits
 pub mod DuplexBoards
 pub mod ToleratedFaults
 pub mod ContentsLaws
+pub mod MendedBoards

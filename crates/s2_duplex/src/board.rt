@@ -1,6 +1,6 @@
 //! One board of global memory. Indexes are those of the global list, below `GLOBAL_WORDS`.
 
-ghost use Rattle.std.specs.Prelude.{◌≡◌, ◌<◌, IfOk, false, length};
+ghost use Rattle.std.specs.Prelude.{◌≡◌, ◌<◌, IfOk, false, length, true};
 ghost use Rattle.s2_duplex.specs.DuplexBoards.{board_word, has_parity, is_valid, new_board, with_word, written_board};
 ghost use Rattle.s2_duplex.specs.ToleratedFaults.{IsFaultBelow, faulty, has_all_parity};
 
@@ -102,6 +102,13 @@ impl MemoryBoard {
     {
         self.words[i as usize] = word;
         self.parity.set(i as usize, parity(word));
+    }
+
+    /// The board is in.
+    pub(crate) fn bring_in(&mut self)
+        ensures { self.new ≡ record self.old { is_in = true } }
+    {
+        self.is_in = true;
     }
 
     /// The same, where the board is in.

@@ -1,8 +1,9 @@
 //! The two boards, and the calls of global memory.
 
-ghost use Rattle.std.specs.Prelude.{◌≡◌, ◌<◌, IfErr, IfOk, is_ok, length, slice_index, slice_set};
+ghost use Rattle.std.specs.Prelude.{◌≡◌, ◌<◌, IfErr, IfOk, Some, is_ok, length, slice_index, slice_set, true};
 ghost use Rattle.s2_base.specs.Words.{bytes_into_of};
-ghost use Rattle.s2_duplex.specs.DuplexBoards.{boards_read, boards_written, contents, new_boards, pair_of, valid_word, word_in};
+ghost use Rattle.s2_duplex.specs.DuplexBoards.{board_word, boards_read, boards_written, contents, has_parity, new_boards, pair_of, valid_word, word_in};
+ghost use Rattle.s2_duplex.specs.MendedBoards.{board_of, board_out, boards_copied, boards_joined, IsMended};
 ghost use Rattle.s2_duplex.specs.ToleratedFaults.{IsFaultBelow, boards_faulted, boards_struck, faulty_board, is_tolerated};
 
 use crate::board::MemoryBoard;
@@ -13,7 +14,7 @@ use std::marker::Model;
 
 /// Global memory on two boards, 0 and 1.
 ///
-/// A board is in or out for good. A word whose parity bit does not fit is bad. At each place at least one
+/// A board is in, or out until it is brought in. A word whose parity bit does not fit is bad. At each place at least one
 /// board that is in has a word that is not bad; the list of these words is what the boards stand for.
 #[derive(Drop)]
 pub struct Duplex {
@@ -88,6 +89,7 @@ impl Duplex {
         ensures contents { contents self.new
             ≡ slice_set (contents self.old) i
             (bytes_into_of (slice_index (contents self.old) i) word mask) }
+        ensures valid { valid_word self.new i ≡ bytes_into_of (valid_word self.old i) word mask }
     {
         let merged = bytes_into(valid(&self.first, &self.second, i), word, mask);
         self.first.write(i, merged);
@@ -115,6 +117,66 @@ impl Duplex {
                 board: named(fault),
             })
         }
+    }
+
+    /// The board that is out; `None` exactly where both are in.
+    pub fn out(&self) -> Option<u8>
+        ensures { result ≡ board_out self.now }
+    {
+        if !self.first.is_in() {
+            Some(0)
+        } else if !self.second.is_in() {
+            Some(1)
+        } else {
+            None
+        }
+    }
+
+    /// Word `i`, below `GLOBAL_WORDS`, of board `b`, which is out, becomes that of the list, with right parity. The
+    /// list stays, and each other word and parity bit.
+    pub fn copy_word(&mut self, b: u8, i: u32)
+        requires out { board_out self.old ≡ Some b }
+        requires i { i < GLOBAL_WORDS }
+        ensures boards { self.new ≡ boards_copied b i self.old }
+        ensures word { board_word (board_of b self.new) i ≡ slice_index (contents self.old) i }
+        ensures parity { has_parity (board_of b self.new) i ≡ true }
+        ensures contents { contents self.new ≡ contents self.old }
+    {
+        copy_to(&mut self.first, &mut self.second, b, i);
+    }
+
+    /// Board `b`, which is out and has each word of the list with right parity, is in. The list stays.
+    pub fn bring_in(&mut self, b: u8)
+        requires out { board_out self.old ≡ Some b }
+        requires mended { IsMended b self.old }
+        ensures boards { self.new ≡ boards_joined b self.old }
+        ensures contents { contents self.new ≡ contents self.old }
+    {
+        join(&mut self.first, &mut self.second, b);
+    }
+}
+
+/// The valid word at `i` is set in a board.
+fn copy_to(first: &mut MemoryBoard, second: &mut MemoryBoard, b: u8, i: u32)
+    requires { i < GLOBAL_WORDS }
+    ensures { pair_of first.new second.new ≡ boards_copied b i (pair_of first.old second.old) }
+{
+    let word = valid(first, second, i);
+    if b == 0 {
+        first.set(i, word);
+    } else {
+        second.set(i, word);
+    }
+}
+
+/// A board is in.
+fn join(first: &mut MemoryBoard, second: &mut MemoryBoard, b: u8)
+    ensures { pair_of first.new second.new ≡ boards_joined b (pair_of first.old second.old) }
+{
+    if b == 0 {
+        first.bring_in();
+    } else {
+        second.bring_in();
     }
 }
 

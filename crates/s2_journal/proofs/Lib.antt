@@ -1,4 +1,5 @@
 pub mod Joined
+pub mod LineRanges
 pub mod ReportTests
 pub mod ReportTexts
 pub mod OrderStates

@@ -1,14 +1,16 @@
 -- The lines of a report: a row for each kind of line, and the one line of each note, count and end. A new kind is a new row here.
-use Rattle.std.specs.Prelude.{ℕ, ◌-◌, Bool, true, false, List, [], ◌∷◌, ◌++◌, codes, slice_index}
+use Rattle.std.specs.Prelude.{ℕ, ◌-◌, Bool, true, false, List, [], ◌∷◌, ◌++◌, codes}
 use Rattle.s2_base.specs.declared.map.TheConstants.{GLOBAL_WORDS}
-use Rattle.s2_ports.specs.declared.events.Event.TheVariants.{Tick, Key}
-use Rattle.s2_text.specs.LineGrammar.{number, hex, Part, word, field, space, Fits, spelling}
+use Rattle.s2_ports.specs.declared.events.Event.TheVariants.{Tick, Key, Private}
+use Rattle.s2_ports.specs.declared.events.TheConstants.{NO_VALUE}
+use Rattle.s2_ports.specs.Events.{IsEventInRange}
+use Rattle.s2_text.specs.LineGrammar.{number, hex, Part, word, field, space, Fits, spelling, nums, num_at}
 use Rattle.s2_text.specs.LineTables.{LineRow}
 use Rattle.s2_script.specs.ScriptLines.{processor, board, word_value, long}
 use Rattle.s2_journal.specs.declared.note.Why.{Why}
 use Rattle.s2_journal.specs.declared.note.Why.TheVariants.{Differ, Late, Removed}
 use Rattle.s2_journal.specs.declared.note.Note.{Note}
-use Rattle.s2_journal.specs.declared.note.Note.TheVariants.{Delivered, Out, Lost, Repaired, BoardDead, Join, Joined}
+use Rattle.s2_journal.specs.declared.note.Note.TheVariants.{Delivered, Out, Lost, Repaired, BoardDead, Mend, Mended, Join, Joined}
 use Rattle.s2_journal.specs.declared.note.Reason.TheVariants.{Second, Slow, BothBoards}
 use Rattle.s2_journal.specs.declared.note.End.{End}
 use Rattle.s2_journal.specs.declared.note.End.TheVariants.{Script, Halt, Bad, Outside, TooLong, Report}
@@ -36,13 +38,23 @@ end_row form = record { form = form; says = λ v. Ending }
 
 -- d RUN tick
 abbrev pub delivered_tick_row : LineRow ReportLine
-delivered_tick_row = record { form = word (codes "d ") ∷ count ∷ word (codes " tick") ∷ []; says = λ v. Delivery (slice_index v 0) Tick }
+delivered_tick_row = record { form = word (codes "d ") ∷ count ∷ word (codes " tick") ∷ []; says = λ v. Delivery (num_at v 0) Tick }
 
 -- d RUN key HH
 abbrev pub delivered_key_row : LineRow ReportLine
 delivered_key_row = record {
   form = word (codes "d ") ∷ count ∷ word (codes " key ") ∷ field (hex 2) ∷ [];
-  says = λ v. Delivery (slice_index v 0) (Key (slice_index v 1));
+  says = λ v. Delivery (num_at v 0) (Key (num_at v 1));
+}
+
+-- d RUN private A B C
+abbrev pub slot_value : Part
+slot_value = field (number 0 NO_VALUE)
+
+abbrev pub delivered_private_row : LineRow ReportLine
+delivered_private_row = record {
+  form = word (codes "d ") ∷ count ∷ word (codes " private ") ∷ slot_value ∷ space ∷ slot_value ∷ space ∷ slot_value ∷ [];
+  says = λ v. Delivery (num_at v 0) (Private (num_at v 1) (num_at v 2) (num_at v 3));
 }
 
 -- out TICK P differ, out TICK P late, out TICK P removed
@@ -65,6 +77,14 @@ repair_row = note_row (word (codes "repair ") ∷ count ∷ space ∷ board ∷ 
 abbrev pub board_row : LineRow ReportLine
 board_row = note_row (word (codes "board ") ∷ count ∷ space ∷ board ∷ [])
 
+-- mend TICK B
+abbrev pub mend_row : LineRow ReportLine
+mend_row = note_row (word (codes "mend ") ∷ count ∷ space ∷ board ∷ [])
+
+-- mended TICK B
+abbrev pub mended_row : LineRow ReportLine
+mended_row = note_row (word (codes "mended ") ∷ count ∷ space ∷ board ∷ [])
+
 -- join TICK P
 abbrev pub join_row : LineRow ReportLine
 join_row = note_row (word (codes "join ") ∷ count ∷ space ∷ processor ∷ [])
@@ -75,7 +95,7 @@ joined_row how = note_row (word (codes "joined ") ∷ count ∷ space ∷ proces
 
 -- runs N
 abbrev pub runs_row : LineRow ReportLine
-runs_row = record { form = word (codes "runs ") ∷ count ∷ []; says = λ v. Runs (slice_index v 0) }
+runs_row = record { form = word (codes "runs ") ∷ count ∷ []; says = λ v. Runs (num_at v 0) }
 
 -- ticks N
 abbrev pub tick_count_row : LineRow ReportLine
@@ -121,7 +141,8 @@ end_report_row = end_row (word (codes "end report") ∷ [])
 abbrev pub note_rows : List (LineRow ReportLine)
 note_rows =
     delivered_tick_row ∷ delivered_key_row ∷ out_row (codes "differ") ∷ out_row (codes "late") ∷ out_row (codes "removed")
-    ∷ lost_tick_row ∷ lost_key_row ∷ repair_row ∷ board_row ∷ join_row ∷ joined_row (codes "good") ∷ joined_row (codes "tainted") ∷ []
+    ∷ lost_tick_row ∷ lost_key_row ∷ repair_row ∷ board_row ∷ join_row ∷ joined_row (codes "good") ∷ joined_row (codes "tainted")
+    ∷ mend_row ∷ mended_row ∷ delivered_private_row ∷ []
 
 -- lines of counts
 abbrev pub count_rows : List (LineRow ReportLine)
@@ -136,6 +157,15 @@ end_rows =
 abbrev pub report_rows : List (LineRow ReportLine)
 report_rows = note_rows ++ count_rows ++ end_rows
 
+-- the numbers that a reader keeps of a line are in the ranges of its event
+abbrev pub IsLineInRange : ReportLine → Type 0
+IsLineInRange (Delivery run event) = IsEventInRange event
+IsLineInRange Other = Unit {0}
+IsLineInRange (Runs n) = Unit {0}
+IsLineInRange Ticks = Unit {0}
+IsLineInRange Bytes = Unit {0}
+IsLineInRange Ending = Unit {0}
+
 -- ---- the one line of a note
 
 abbrev pub why_word : Why → List ℕ
@@ -147,15 +177,19 @@ abbrev pub joined_word : Bool → List ℕ
 joined_word true = codes "good"
 joined_word false = codes "tainted"
 
--- its form
+-- its form; private values come from the machine and are never lost, so that no line has place for them
 abbrev pub note_form : Note → List Part
 note_form (Delivered run Tick) = delivered_tick_row.form
 note_form (Delivered run (Key b)) = delivered_key_row.form
+note_form (Delivered run (Private a b c)) = delivered_private_row.form
 note_form (Out tick p why) = (out_row (why_word why)).form
 note_form (Lost tick Tick) = lost_tick_row.form
 note_form (Lost tick (Key b)) = lost_key_row.form
+note_form (Lost tick (Private a b c)) = lost_tick_row.form
 note_form (Repaired tick b index) = repair_row.form
 note_form (BoardDead tick b) = board_row.form
+note_form (Mend tick b) = mend_row.form
+note_form (Mended tick b) = mended_row.form
 note_form (Join tick p) = join_row.form
 note_form (Joined tick p good) = (joined_row (joined_word good)).form
 
@@ -163,21 +197,25 @@ note_form (Joined tick p good) = (joined_row (joined_word good)).form
 abbrev pub note_numbers : Note → List ℕ
 note_numbers (Delivered run Tick) = run ∷ []
 note_numbers (Delivered run (Key b)) = run ∷ b ∷ []
+note_numbers (Delivered run (Private a b c)) = run ∷ a ∷ b ∷ c ∷ []
 note_numbers (Out tick p why) = tick ∷ p ∷ []
 note_numbers (Lost tick Tick) = tick ∷ []
 note_numbers (Lost tick (Key b)) = tick ∷ b ∷ []
+note_numbers (Lost tick (Private a b c)) = tick ∷ a ∷ b ∷ c ∷ []
 note_numbers (Repaired tick b index) = tick ∷ b ∷ index ∷ []
 note_numbers (BoardDead tick b) = tick ∷ b ∷ []
+note_numbers (Mend tick b) = tick ∷ b ∷ []
+note_numbers (Mended tick b) = tick ∷ b ∷ []
 note_numbers (Join tick p) = tick ∷ p ∷ []
 note_numbers (Joined tick p good) = tick ∷ p ∷ []
 
 -- its text
 abbrev pub note_text : Note → List ℕ
-note_text note = spelling (note_form note) (note_numbers note)
+note_text note = spelling (note_form note) (nums (note_numbers note))
 
 -- its numbers are in the ranges of a reader
 abbrev pub IsReadableNote : Note → Type 0
-IsReadableNote note = Fits (note_form note) (note_numbers note)
+IsReadableNote note = Fits (note_form note) (nums (note_numbers note))
 
 -- what a reader keeps of it
 abbrev pub note_answer : Note → ReportLine
@@ -186,6 +224,8 @@ note_answer (Out tick p why) = Other
 note_answer (Lost tick event) = Other
 note_answer (Repaired tick b index) = Other
 note_answer (BoardDead tick b) = Other
+note_answer (Mend tick b) = Other
+note_answer (Mended tick b) = Other
 note_answer (Join tick p) = Other
 note_answer (Joined tick p good) = Other
 
@@ -199,11 +239,11 @@ count_form BytesCount = bytes_row.form
 
 -- its text
 abbrev pub count_text : Count → ℕ → List ℕ
-count_text name n = spelling (count_form name) (n ∷ [])
+count_text name n = spelling (count_form name) (nums (n ∷ []))
 
 -- its number is in the range of a reader
 abbrev pub IsReadableCount : Count → ℕ → Type 0
-IsReadableCount name n = Fits (count_form name) (n ∷ [])
+IsReadableCount name n = Fits (count_form name) (nums (n ∷ []))
 
 -- what a reader keeps of it
 abbrev pub count_answer : Count → ℕ → ReportLine
@@ -237,8 +277,8 @@ end_numbers Report = []
 
 -- its text
 abbrev pub end_text : End → List ℕ
-end_text e = spelling (end_form e) (end_numbers e)
+end_text e = spelling (end_form e) (nums (end_numbers e))
 
 -- its numbers are in the ranges of a reader
 abbrev pub IsReadableEnd : End → Type 0
-IsReadableEnd e = Fits (end_form e) (end_numbers e)
+IsReadableEnd e = Fits (end_form e) (nums (end_numbers e))

@@ -33,6 +33,10 @@ pub enum Note {
     Repaired { tick: u64, board: u8, index: u32 },
     /// The board is out.
     BoardDead { tick: u64, board: u8 },
+    /// The mending of the board begins.
+    Mend { tick: u64, board: u8 },
+    /// The board is mended, and in again.
+    Mended { tick: u64, board: u8 },
     /// Processor `p` is being brought back.
     Join { tick: u64, p: u8 },
     /// Processor `p` is in again; not good means that it is the tainted one.

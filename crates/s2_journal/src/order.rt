@@ -2,6 +2,7 @@
 
 ghost use Rattle.std.specs.Prelude.{◌≡◌, ◌≢◌, ◌+◌, ◌-◌, ◌<◌, ◌≤◌, ◌++◌, ◌∷◌, [], ℕ, List, max, nat_lt, IfOk, OnErr, IsOk, IfErr, ◌↔◌, bytes_eq, Some, None, not, ◌==◌, if◌then◌else◌};
 ghost use Rattle.s2_journal.specs.declared.note.ReportLine.{ReportLine};
+ghost use Rattle.s2_journal.specs.ReportLines.{IsLineInRange};
 ghost use Rattle.s2_journal.specs.ReportOrder.{OrderState, order_state, closing_lines, place_of, closing_of, delivery_run, ReadsNext, order_fault, IsReport, IsBadReport, HasReportForm};
 
 use crate::note::ReportLine;
@@ -56,6 +57,7 @@ impl ReportOrder {
         ensures read { (before : List ReportLine) → self.old ≡ order_state before → ReadsNext before line.now result }
         ensures taken { (before : List ReportLine) → self.old ≡ order_state before → IfOk result (λ x. self.new ≡ order_state (before ++ x ∷ [])) }
         ensures unchanged { OnErr result (self.new ≡ self.old) }
+        ensures range { IfOk result IsLineInRange }
     {
         let said = match read_report(line) {
             Ok(said) => said,

@@ -1,16 +1,16 @@
 //! The reader of a report's lines.
 
-ghost use Rattle.std.specs.Prelude.{◌≡◌, Ok};
+ghost use Rattle.std.specs.Prelude.{◌≡◌, IfOk, Ok};
 ghost use Rattle.s2_text.specs.LineReading.{ReadsRows};
 ghost use Rattle.s2_text.specs.LineTables.{ReadsRow, SaysIn};
 ghost use Rattle.s2_journal.specs.declared.note.ReportLine.{ReportLine};
-ghost use Rattle.s2_journal.specs.ReportLines.{note_rows, count_rows, end_rows, report_rows};
+ghost use Rattle.s2_journal.specs.ReportLines.{IsLineInRange, note_rows, count_rows, end_rows, report_rows};
 
 use crate::note::ReportLine;
 use crate::rows::{
-    board, bytes, delivered_key, delivered_tick, end_bad, end_board, end_halt, end_report,
-    end_script, end_second, end_slow, end_too_long, join, joined, lost_key, lost_tick, out, repair,
-    runs, ticks,
+    board, bytes, delivered_key, delivered_private, delivered_tick, end_bad, end_board, end_halt,
+    end_report, end_script, end_second, end_slow, end_too_long, join, joined, lost_key, lost_tick,
+    mend, mended, out, repair, runs, ticks,
 };
 use s2_text::{BadLine, HELD_BYTES, Stop, either, front, without_remarks};
 
@@ -18,7 +18,10 @@ use s2_text::{BadLine, HELD_BYTES, Stop, either, front, without_remarks};
 fn line_of_note(line: &[u8]) -> Result<ReportLine, Stop>
     ensures { ReadsRows note_rows line.now result }
 {
-    let found = joined(line, b"tainted");
+    let found = delivered_private(line);
+    let found = either(mended(line), found);
+    let found = either(mend(line), found);
+    let found = either(joined(line, b"tainted"), found);
     let found = either(joined(line, b"good"), found);
     let found = either(join(line), found);
     let found = either(board(line), found);
@@ -70,6 +73,7 @@ fn table_line(line: &[u8]) -> Result<ReportLine, Stop>
 pub fn read_report(line: &[u8]) -> Result<ReportLine, BadLine>
     ensures read { ReadsRow report_rows line.now result }
     ensures line { (x : ReportLine) → SaysIn report_rows x line.now → result ≡ Ok x }
+    ensures range { IfOk result IsLineInRange }
 {
     let seen = front(line, HELD_BYTES);
     without_remarks(seen, table_line(seen))

@@ -2,13 +2,14 @@
 
 ghost use Rattle.std.specs.Prelude.{◌≡◌, [], ◌∷◌};
 ghost use Rattle.s2_text.specs.LineReading.{IsReading, number_reading, ReadsForm};
+ghost use Rattle.s2_ports.specs.declared.events.TheConstants.{NO_VALUE};
 ghost use Rattle.s2_journal.specs.declared.ranges.TheConstants.{GREATEST_COUNT};
-ghost use Rattle.s2_journal.specs.ReportLines.{delivered_tick_row, delivered_key_row, out_row, lost_tick_row, lost_key_row, repair_row, board_row, join_row, joined_row, runs_row, tick_count_row, bytes_row, end_script_row, end_halt_row, end_bad_row, end_second_row, end_slow_row, end_board_row, end_too_long_row, end_report_row};
+ghost use Rattle.s2_journal.specs.ReportLines.{delivered_tick_row, delivered_key_row, out_row, lost_tick_row, lost_key_row, repair_row, board_row, mend_row, mended_row, join_row, joined_row, runs_row, tick_count_row, bytes_row, end_script_row, end_halt_row, end_bad_row, end_second_row, end_slow_row, end_board_row, end_too_long_row, end_report_row, delivered_private_row};
 
 use crate::note::ReportLine;
 use crate::ranges::{GREATEST_COUNT, GREATEST_MISSES};
 use s2_base::GLOBAL_WORDS;
-use s2_ports::Event;
+use s2_ports::{Event, NO_VALUE};
 use s2_script::{BOARDS, PROCESSORS};
 use s2_text::{Stop, below, end, hex, number, space, word};
 
@@ -45,6 +46,33 @@ pub fn delivered_key(line: &[u8]) -> Result<ReportLine, Stop>
     Ok(ReportLine::Delivery {
         run,
         event: Event::Key(byte as u8),
+    })
+}
+
+/// Reads a private value.
+fn slot_value(bytes: &[u8]) -> Result<(u16, &[u8]), Stop>
+    ensures { IsReading (λ x. (x.0, x.1.now)) result (number_reading 0 NO_VALUE bytes.now) }
+{
+    let (value, rest) = number(bytes, 0, u64::from(NO_VALUE))?;
+    Ok((value as u16, rest))
+}
+
+/// Reads `d RUN private A B C`.
+pub fn delivered_private(line: &[u8]) -> Result<ReportLine, Stop>
+    ensures { ReadsForm delivered_private_row line.now result }
+{
+    let rest = word(line, b"d ")?;
+    let (run, rest) = count(rest)?;
+    let rest = word(rest, b" private ")?;
+    let (a, rest) = slot_value(rest)?;
+    let rest = space(rest)?;
+    let (b, rest) = slot_value(rest)?;
+    let rest = space(rest)?;
+    let (c, rest) = slot_value(rest)?;
+    end(rest)?;
+    Ok(ReportLine::Delivery {
+        run,
+        event: Event::Private { a, b, c },
     })
 }
 
@@ -104,6 +132,30 @@ pub fn board(line: &[u8]) -> Result<ReportLine, Stop>
     ensures { ReadsForm board_row line.now result }
 {
     let rest = word(line, b"board ")?;
+    let (_, rest) = count(rest)?;
+    let rest = space(rest)?;
+    let (_, rest) = below(rest, BOARDS)?;
+    end(rest)?;
+    Ok(ReportLine::Other)
+}
+
+/// Reads `mend TICK B`.
+pub fn mend(line: &[u8]) -> Result<ReportLine, Stop>
+    ensures { ReadsForm mend_row line.now result }
+{
+    let rest = word(line, b"mend ")?;
+    let (_, rest) = count(rest)?;
+    let rest = space(rest)?;
+    let (_, rest) = below(rest, BOARDS)?;
+    end(rest)?;
+    Ok(ReportLine::Other)
+}
+
+/// Reads `mended TICK B`.
+pub fn mended(line: &[u8]) -> Result<ReportLine, Stop>
+    ensures { ReadsForm mended_row line.now result }
+{
+    let rest = word(line, b"mended ")?;
     let (_, rest) = count(rest)?;
     let rest = space(rest)?;
     let (_, rest) = below(rest, BOARDS)?;

@@ -9,7 +9,7 @@ use s2_ports::Event;
 
 /// Each note with its line, at the greatest numbers that are read, and what a reader keeps of it.
 #[rattlefmt::skip]
-static NOTES: [(&[u8], Note, ReportLine); 12] = [
+static NOTES: [(&[u8], Note, ReportLine); 14] = [
     (b"d 1099511627776 tick", Note::Delivered { run: 1099511627776, event: Event::Tick }, ReportLine::Delivery { run: 1099511627776, event: Event::Tick }),
     (b"d 0 key ff", Note::Delivered { run: 0, event: Event::Key(255) }, ReportLine::Delivery { run: 0, event: Event::Key(255) }),
     (b"out 1099511627776 2 differ", Note::Out { tick: 1099511627776, p: 2, why: Why::Differ }, ReportLine::Other),
@@ -19,6 +19,8 @@ static NOTES: [(&[u8], Note, ReportLine); 12] = [
     (b"lost 9 key 0a", Note::Lost { tick: 9, event: Event::Key(10) }, ReportLine::Other),
     (b"repair 9 1 262143", Note::Repaired { tick: 9, board: 1, index: 262143 }, ReportLine::Other),
     (b"board 9 1", Note::BoardDead { tick: 9, board: 1 }, ReportLine::Other),
+    (b"mend 1099511627776 0", Note::Mend { tick: 1099511627776, board: 0 }, ReportLine::Other),
+    (b"mended 9 1", Note::Mended { tick: 9, board: 1 }, ReportLine::Other),
     (b"join 9 2", Note::Join { tick: 9, p: 2 }, ReportLine::Other),
     (b"joined 9 2 good", Note::Joined { tick: 9, p: 2, good: true }, ReportLine::Other),
     (b"joined 9 2 tainted", Note::Joined { tick: 9, p: 2, good: false }, ReportLine::Other),

@@ -38,6 +38,8 @@ fn note_line(n: Note) -> Text
         Note::Lost { tick, event } => put_lost(tick, event),
         Note::Repaired { tick, board, index } => put_repair(tick, board, index),
         Note::BoardDead { tick, board } => put_board(tick, board),
+        Note::Mend { tick, board } => put_mend(tick, board),
+        Note::Mended { tick, board } => put_mended(tick, board),
         Note::Join { tick, p } => put_join(tick, p),
         Note::Joined { tick, p, good } => put_joined(tick, p, good),
     }
@@ -49,11 +51,24 @@ fn put_delivered(run: u64, event: Event) -> Text
     ensures text { result.items ≡ note_text (Note.Delivered run event) }
     ensures short { length result.items < LINE_BYTES }
 {
-    let line = and_dec(start(b"d"), run);
     match event {
-        Event::Tick => and_word(line, b"tick"),
-        Event::Key(byte) => and_hex(and_word(line, b"key"), byte as u32, 2),
+        Event::Tick => and_word(and_dec(start(b"d"), run), b"tick"),
+        Event::Key(byte) => {
+            let line = and_word(and_dec(start(b"d"), run), b"key");
+            and_hex(line, byte as u32, 2)
+        }
+        Event::Private { a, b, c } => put_private(run, a, b, c),
     }
+}
+
+/// Writes `d RUN private A B C`.
+#[tactic(auto, using(crate::proofs::Joined::texts))]
+fn put_private(run: u64, a: u16, b: u16, c: u16) -> Text
+    ensures text { result.items ≡ note_text (Note.Delivered run (Event.Private a b c)) }
+    ensures short { length result.items < LINE_BYTES }
+{
+    let line = and_word(and_dec(start(b"d"), run), b"private");
+    and_dec(and_dec(and_dec(line, a as u64), b as u64), c as u64)
 }
 
 /// Writes `lost TICK` and the event.
@@ -65,6 +80,8 @@ fn put_lost(tick: u64, event: Event) -> Text
     let line = and_dec(start(b"lost"), tick);
     match event {
         Event::Tick => and_word(line, b"tick"),
+        // no such note is made: private values are never lost
+        Event::Private { a: _, b: _, c: _ } => and_word(line, b"tick"),
         Event::Key(byte) => and_hex(and_word(line, b"key"), byte as u32, 2),
     }
 }
@@ -110,6 +127,24 @@ fn put_board(tick: u64, board: u8) -> Text
     ensures short { length result.items < LINE_BYTES }
 {
     and_dec(and_dec(start(b"board"), tick), board as u64)
+}
+
+/// Writes `mend TICK B`.
+#[tactic(auto, using(crate::proofs::Joined::texts))]
+fn put_mend(tick: u64, board: u8) -> Text
+    ensures text { result.items ≡ note_text (Note.Mend tick board) }
+    ensures short { length result.items < LINE_BYTES }
+{
+    and_dec(and_dec(start(b"mend"), tick), board as u64)
+}
+
+/// Writes `mended TICK B`.
+#[tactic(auto, using(crate::proofs::Joined::texts))]
+fn put_mended(tick: u64, board: u8) -> Text
+    ensures text { result.items ≡ note_text (Note.Mended tick board) }
+    ensures short { length result.items < LINE_BYTES }
+{
+    and_dec(and_dec(start(b"mended"), tick), board as u64)
 }
 
 /// Writes `join TICK P`.

@@ -10,6 +10,7 @@ use Rattle.s2_store.specs.declared.store.TheConstants.{PAGE_WORDS}
 use Rattle.s2_device.specs.DeviceState.{Device, lines_of}
 use Rattle.s2_cpu.specs.Processor.{Processor}
 use Rattle.s2_machine.specs.OutsideAccess.{AccessResult}
+use Rattle.s2_machine.specs.PrivateArea.{KeepsSlots}
 use Rattle.s2_machine.specs.Machine.{Machine}
 use Rattle.s2_machine.specs.declared.ask.Ask.{Ask}
 use Rattle.s2_machine.specs.declared.ask.Ask.TheVariants.{Local, Outside}
@@ -41,13 +42,16 @@ abbrev pub local_pages : ℕ
 local_pages = LOCAL_WORDS / PAGE_WORDS
 
 -- what is used of a core: each cycle counts; the lines stay, or are those of the answer; a cycle asks for no
--- synchronisation; the lists keep their lengths; no mark is cleared, and a word of a page without a mark stays
+-- synchronisation, and tells its run count; the lists keep their lengths; no mark is cleared, and a word of a page
+-- without a mark stays; and an access keeps the slots of the private-write area
 pub record IsCore (k : Core) : Type 0 where
   pub run_after_turn : (p : Processor) (local : List ℕ) → k.ask_of p local ≡ Local → (k.after_turn p local).run ≡ (p.run + 1) % 2 ^ 64
   pub lines_after_turn : (p : Processor) (local : List ℕ) → k.ask_of p local ≡ Local → (k.after_turn p local).lines ≡ p.lines
   pub run_after_finish : (p : Processor) (local : List ℕ) (r : Request) (word lines : ℕ) → k.ask_of p local ≡ Outside r → (k.after_finish p local word lines).run ≡ (p.run + 1) % 2 ^ 64
   pub lines_after_finish : (p : Processor) (local : List ℕ) (r : Request) (word lines : ℕ) → k.ask_of p local ≡ Outside r → (k.after_finish p local word lines).lines ≡ lines
   pub ask_kind : (p : Processor) (local : List ℕ) (r : Request) → k.ask_of p local ≡ Outside r → is_sync r.kind ≡ false
+  pub ask_run : (p : Processor) (local : List ℕ) (r : Request) → k.ask_of p local ≡ Outside r → r.run ≡ p.run
+  pub slots : KeepsSlots k.access
   pub length_after_turn : (p : Processor) (local : List ℕ) → k.ask_of p local ≡ Local → length (k.local_after_turn p local) ≡ length local
   pub marks_length_after_turn : (p : Processor) (local : List ℕ) (marks : List Bool) → k.ask_of p local ≡ Local → length (k.marks_after_turn p local marks) ≡ length marks
   pub unmarked : (p : Processor) (local : List ℕ) (marks : List Bool) (page : ℕ) → k.ask_of p local ≡ Local → length local ≡ LOCAL_WORDS → length marks ≡ local_pages → mark_at (k.marks_after_turn p local marks) page ≡ false → mark_at marks page ≡ false

@@ -31,6 +31,7 @@ pub mod StepRanges
 pub mod WriteBack
 pub mod LocalWork
 pub mod OutsideAccess
+pub mod PrivateArea
 pub mod Machine
 pub mod Cores
 pub mod R2000

@@ -1,5 +1,6 @@
 -- The ranges of what a step holds, which the code relies on.
-use Rattle.std.specs.Prelude.{ℕ, ◌<◌}
+use Rattle.std.specs.Prelude.{ℕ, ◌<◌, ◌≤◌}
+use Rattle.s2_base.specs.declared.devices.TheConstants.{PRIV2}
 use Rattle.s2_base.specs.declared.map.TheConstants.{LOCAL_WORDS, GLOBAL_WORDS}
 use Rattle.s2_base.specs.declared.places.Place.{Place}
 use Rattle.s2_base.specs.declared.places.Place.TheVariants.{Local, Boot, Global, Device, Nowhere}
@@ -14,7 +15,7 @@ abbrev pub IsPlaced : Place → Type 0
 IsPlaced (Local i) = i < LOCAL_WORDS
 IsPlaced (Boot i) = i < LOCAL_WORDS
 IsPlaced (Global i) = i < GLOBAL_WORDS
-IsPlaced (Device k) = k < 6
+IsPlaced (Device k) = k ≤ PRIV2
 IsPlaced Nowhere = Unit {0}
 
 -- a load has a register, a byte of a word and a place; a store has a mask and a place

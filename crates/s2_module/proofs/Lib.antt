@@ -1,1 +1,2 @@
 mod ModuleViews
+mod TurnRuns

@@ -5,3 +5,6 @@ pub use Rattle.s2_triplex.specs.ModuleFaults
 pub use Rattle.s2_triplex.specs.R2000Triplex
 pub mod ModuleSize
 pub mod ModuleFinish
+pub mod ModuleRests
+pub mod ModuleLeads
+pub mod FoundStep

@@ -3,7 +3,7 @@
 ghost use Rattle.s2_triplex.specs.ModuleState.{is_frame_end, sync_request};
 ghost use Rattle.s2_triplex.specs.ModuleAnswer.{is_asking};
 ghost use Rattle.s2_voter.specs.RequestEquality.{is_same_request};
-ghost use Rattle.std.specs.Prelude.{◌≡◌};
+ghost use Rattle.std.specs.Prelude.{◌≡◌, ◌<◌, ◌%◌, ◌==◌};
 
 use s2_clock::FRAME;
 use s2_core::Ask;
@@ -22,11 +22,25 @@ pub fn sync(run: u64) -> Request
     }
 }
 
-/// Whether a frame ends at a run count: at each positive multiple of `FRAME`.
-pub fn ends_frame(run: u64) -> bool
-    ensures { result ≡ is_frame_end FRAME run }
+/// Whether a frame of so many run cycles ends at a run count: at each positive multiple. One of none never ends.
+#[inline(always)]
+#[tactic(auto, using(crate::proofs::ModuleViews::no_frame_end))]
+pub fn ends_frame(frame: u16, run: u64) -> bool
+    ensures { result ≡ is_frame_end frame run }
 {
-    run > 0 && run % FRAME == 0
+    frame > 0 && run > 0 && is_whole(frame, run)
+}
+
+/// Whether a run count is a multiple of a frame: with [`FRAME`](s2_clock::FRAME) without a division.
+fn is_whole(frame: u16, run: u64) -> bool
+    requires { 0 < frame }
+    ensures { result ≡ (run % frame == 0) }
+{
+    if frame as u64 == FRAME {
+        run % FRAME == 0
+    } else {
+        run % frame as u64 == 0
+    }
 }
 
 /// Whether two requests are equal.

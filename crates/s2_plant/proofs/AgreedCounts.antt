@@ -55,16 +55,16 @@ three_lengths r a b c =
     let inner = length-append (seen_of r b) (seen_of r c) in
     omega arith
 
-by_latches : (members : List Bool) (latches : List (Option Posted)) (age : Option ℕ) (r : Request) → length latches ≡ 3 → let v : VoterState = record { members = members; latches = latches; age = age } in length (seen_in v r) ≡ count_by (holds_request r) latches
-by_latches members [] age r h = absurd (omega arith)
-by_latches members (a ∷ []) age r h = absurd (omega arith)
-by_latches members (a ∷ b ∷ []) age r h = absurd (omega arith)
-by_latches members (a ∷ b ∷ c ∷ []) age r h = three_lengths r a b c
-by_latches members (a ∷ b ∷ c ∷ d ∷ ls) age r h = absurd (omega arith)
+by_latches : (members : List Bool) (latches : List (Option Posted)) (age : Option ℕ) (timer : ℕ) (r : Request) → length latches ≡ 3 → let v : VoterState = record { members = members; latches = latches; age = age; timer = timer } in length (seen_in v r) ≡ count_by (holds_request r) latches
+by_latches members [] age timer r h = absurd (omega arith)
+by_latches members (a ∷ []) age timer r h = absurd (omega arith)
+by_latches members (a ∷ b ∷ []) age timer r h = absurd (omega arith)
+by_latches members (a ∷ b ∷ c ∷ []) age timer r h = three_lengths r a b c
+by_latches members (a ∷ b ∷ c ∷ d ∷ ls) age timer r h = absurd (omega arith)
 
 pub two_seen : (v : VoterState) (r : Request) → IsVoter v → is_shared v.latches r ≡ true → 2 ≤ length (seen_in v r)
 two_seen v r kept shared =
-    let count = by_latches v.members v.latches v.age r kept.latches in
+    let count = by_latches v.members v.latches v.age v.timer r kept.latches in
     let more = more_than_one (count_by (holds_request r) v.latches) shared in
     omega arith
   where

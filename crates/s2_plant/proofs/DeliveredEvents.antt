@@ -1,7 +1,10 @@
 -- Events that are delivered one after another.
-use Rattle.std.proofs.Common.{◌≡◌, ℕ, zero, suc, ◌+◌, List, [], ◌∷◌, ◌++◌, ap, refl, sym, arith, ◌∙◌, take, drop, append_assoc, append-nil, length, ◌≤◌}
-use Rattle.std.specs.Prelude.{slice_get}
+use Rattle.std.proofs.Common.{◌≡◌, ℕ, zero, suc, ◌+◌, List, [], ◌∷◌, ◌++◌, ap, refl, sym, subst, arith, ◌∙◌, take, drop, append_assoc, append-nil, length, ◌≤◌}
+use Rattle.std.specs.Prelude.{slice_get, IfSome, true}
 use Rattle.s2_ports.specs.declared.events.Event.{Event}
+use Rattle.s2_ports.specs.declared.events.Event.TheVariants.{Tick, Key, Private}
+use Rattle.s2_ports.specs.Events.{IsEventInRange, comes_from_outside}
+use Rattle.s2_triplex.specs.WaitingEvents.{AreFromOutside}
 use Rattle.s2_device.specs.DeviceState.{Device, device_after}
 use Rattle.s2_journal.specs.declared.note.Note.{Note}
 use Rattle.s2_journal.specs.declared.note.Note.TheVariants.{Delivered}
@@ -12,6 +15,26 @@ use Rattle.s2_plant.specs.StepParts.{event_list}
 pub taken_first : (xs : List Event) → take 1 xs ≡ event_list (slice_get xs 0)
 taken_first [] = refl
 taken_first (x ∷ xs) = refl
+
+-- events that wait come from outside, so that their numbers are in range
+pub first_in_range : (xs : List Event) → AreFromOutside xs → IfSome (slice_get xs 0) IsEventInRange
+first_in_range [] h = tt
+first_in_range (Tick ∷ xs) h = tt
+first_in_range (Key byte ∷ xs) h = tt
+first_in_range (Private a b c ∷ xs) h = absurd (let x = h.0 in cc)
+
+pub rest_outside : (xs : List Event) → AreFromOutside xs → AreFromOutside (drop 1 xs)
+rest_outside [] h = tt
+rest_outside (x ∷ xs) h = h.1
+
+pub one_more_outside : (xs : List Event) (event : Event) → AreFromOutside xs → comes_from_outside event ≡ true → AreFromOutside (xs ++ event ∷ [])
+one_more_outside [] event h is = (is, tt)
+one_more_outside (x ∷ xs) event h is = (h.0, one_more_outside xs event h.1 is)
+
+pub grown_outside : (xs ys : List Event) (event : Event) → AreFromOutside xs → comes_from_outside event ≡ true → ys ≡ xs ++ event ∷ [] → AreFromOutside ys
+grown_outside xs ys event h is grown = subst AreFromOutside (sym grown) (one_more_outside xs event h is)
+
+pub ruleset taken = (taken_first, first_in_range, rest_outside)
 
 next : (i : ℕ) → i + 1 ≡ suc i
 next i = omega arith

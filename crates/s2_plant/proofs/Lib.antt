@@ -7,3 +7,10 @@ pub mod HoldTicks
 pub mod PlantSteps
 pub mod PlantPromises
 pub mod ProperActs
+pub mod QuietTicks
+pub mod TickRuns
+pub mod RestTicks
+pub mod RestRuns
+pub mod LeadTicks
+pub mod ApartTicks
+pub mod ApartRuns

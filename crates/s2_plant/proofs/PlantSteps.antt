@@ -1,34 +1,57 @@
 -- Each step keeps what every plant keeps.
-use Rattle.std.proofs.Common.{◌≡◌, ℕ, ◌+◌, ◌-◌, ◌^◌, ◌<◌, ◌≤◌, List, [], ◌∷◌, length, refl, arith, ◌∙◌}
-use Rattle.std.specs.Prelude.{Bool, true, false, Some, None, nat_lt, ◌==◌, ◌++◌, if◌then◌else◌}
+use Rattle.std.proofs.Common.{◌≡◌, ℕ, ◌+◌, ◌-◌, ◌^◌, ◌<◌, ◌≤◌, List, [], ◌∷◌, length, refl, arith, zero, suc, sym, ap, subst, ◌∙◌}
+use Rattle.std.specs.Prelude.{Bool, true, false, Some, None, nat_lt, ◌++◌, if◌then◌else◌, ◌==◌}
 use Rattle.std.specs.declared.option.Option.{Option}
-use Rattle.s2_voter.specs.declared.verdicts.Verdict.{Verdict}
-use Rattle.s2_voter.specs.declared.verdicts.Verdict.TheVariants.{Waiting, Done, Split}
-use Rattle.s2_join.specs.declared.item.Item.{Item}
-use Rattle.s2_join.specs.declared.item.Item.TheVariants.{Local, Saved}
+use Rattle.s2_clock.specs.Frames.{IsFrame}
+use Rattle.s2_voter.specs.VoterState.{latch_of}
 use Rattle.s2_script.specs.declared.entry.Act.{Act}
-use Rattle.s2_script.specs.declared.entry.Act.TheVariants.{Event as EventAct, Poke, PokeLocal, Drive, Mute, Remove, Revive, Board}
+use Rattle.s2_script.specs.declared.entry.Act.TheVariants.{Event as EventAct, Poke, PokeLocal, Drive, Mute, Remove, Revive, Board, Mend}
 use Rattle.s2_journal.specs.declared.note.Reason.{Reason}
 use Rattle.s2_plant_laws.specs.RepairProgress.{WordsFit, has_saved}
 use Rattle.s2_triplex.specs.R2000Triplex.{r2000_triplex}
-use Rattle.s2_triplex.specs.TriplexState.{TriplexState, Reintegration, started_triplex}
-use Rattle.s2_triplex.specs.VoterDecision.{StepResult, no_effects, after_verdict, tick_verdict, is_sync_verdict}
-use Rattle.s2_triplex.specs.TickFirings.{after_firings}
-use Rattle.s2_triplex.specs.CopyHolds.{is_holding, hold_begun, hold_begun_if, item_copied, saved_word_copied, copied, after_idle_tick, after_hold_tick}
-use Rattle.s2_triplex.specs.TickStep.{ticked, after_working_tick}
+use Rattle.s2_triplex.specs.TriplexState.{TriplexState, Reintegration, started_triplex, module_at, with_frame}
+use Rattle.s2_triplex.specs.CopyHolds.{copied}
+use Rattle.s2_triplex.specs.TickStep.{ticked}
 use Rattle.s2_triplex.specs.ActStep.{acted, is_revivable, revived}
 use Rattle.s2_triplex.specs.StepRefusals.{act_refusal, tick_refusal}
 use Rattle.s2_triplex.specs.StepTurns.{next_after_act, next_after_tick, next_unless_refused}
 use Rattle.s2_triplex_laws.specs.TriplexStates.{IsActCall}
 use Rattle.s2_triplex_laws.proofs.R2000Boards.{r2000_triplex_core}
+use Rattle.s2_triplex_laws.proofs.PromptEvents.{tick_accepts}
 use Rattle.s2_triplex_laws.proofs.TriplexStates.{act_keeps_state, start_is_state, tick_keeps_state}
 use Rattle.s2_plant.specs.ActRanges.{IsActInRange}
 use Rattle.s2_plant.specs.StepParts.{copied_count, is_saved}
-use Rattle.s2_plant.specs.StepPromises.{IsPlant}
+use Rattle.s2_plant.specs.StepPromises.{IsFirstPlant, IsPlant}
 
 -- the start of a program
-pub plant_started : (entry : ℕ) (local global : List ℕ) → length local ≡ 278528 → length global ≡ 262144 → IsPlant (started_triplex 1024 entry local global)
-plant_started entry local global size boards = record { state = start_is_state r2000_triplex entry local global r2000_triplex_core size boards; events = omega arith }
+pub plant_started : (frame entry : ℕ) (local global : List ℕ) → IsFrame frame → length local ≡ 278528 → length global ≡ 262144 → IsPlant (started_triplex frame entry local global)
+plant_started frame entry local global f size boards = record { state = start_is_state r2000_triplex frame entry local global r2000_triplex_core f size boards; events = omega arith }
+
+-- a first plant with another frame
+pub plant_framed : (d : TriplexState) (frame : ℕ) → IsFirstPlant d → IsFrame frame → IsPlant (with_frame frame d)
+plant_framed d frame h f = subst (λ (e : TriplexState). IsPlant (with_frame frame e)) (sym h.is) (plant_started frame h.entry h.local h.global f h.local_words h.global_words)
+
+pub first_framed : (d : TriplexState) (frame : ℕ) → IsFirstPlant d → IsFirstPlant (with_frame frame d)
+first_framed d frame h = record { frame = frame; entry = h.entry; local = h.local; global = h.global; local_words = h.local_words; global_words = h.global_words; is = ap (with_frame frame) h.is }
+
+-- no module of it has run, and no processor is latched
+pub first_runs : (d : TriplexState) → IsFirstPlant d → (p : ℕ) → p < 3 → (module_at d.modules p).cpu.run ≡ 0
+first_runs d h p low = ap (λ (e : TriplexState). (module_at e.modules p).cpu.run) h.is ∙ by_place p low
+  where
+    by_place : (p : ℕ) → p < 3 → (module_at (started_triplex h.frame h.entry h.local h.global).modules p).cpu.run ≡ 0
+    by_place zero low = refl
+    by_place (suc zero) low = refl
+    by_place (suc (suc zero)) low = refl
+    by_place (suc (suc (suc p))) low = absurd (omega arith)
+
+pub first_latches : (d : TriplexState) → IsFirstPlant d → (p : ℕ) → p < 3 → latch_of d.voter p ≡ None
+first_latches d h p low = ap (λ (e : TriplexState). latch_of e.voter p) h.is ∙ by_place p low
+  where
+    by_place : (p : ℕ) → p < 3 → latch_of (started_triplex h.frame h.entry h.local h.global).voter p ≡ None
+    by_place zero low = refl
+    by_place (suc zero) low = refl
+    by_place (suc (suc zero)) low = refl
+    by_place (suc (suc (suc p))) low = absurd (omega arith)
 
 -- what the parts ask of a tick
 pub delivered_room : (d : TriplexState) → IsPlant d → d.delivered ≤ 2 ^ 64 - 9
@@ -53,44 +76,6 @@ few_copied d k = by_case d.reintegration refl
     by_case (Some j) e = let few = few_words (has_saved j.copying.left) j.copying.syncs (j.copied + length j.copying.left) (k.state.counted j e).progress.fits in omega arith
 
 -- a tick accepts no event
-item_accepts : (d : TriplexState) (j : Reintegration) (left : List Item) → (item_copied d j left).accepted ≡ d.accepted
-item_accepts d j [] = refl
-item_accepts d j (Local i ∷ left) = refl
-item_accepts d j (Saved n ∷ left) = by_test (n + 1 == 176)
-  where
-    by_test : (b : Bool) → (saved_word_copied b d j).accepted ≡ d.accepted
-    by_test true = refl
-    by_test false = refl
-
-copy_accepts : (d : TriplexState) (o : Option Reintegration) → (copied d o).accepted ≡ d.accepted
-copy_accepts d None = refl
-copy_accepts d (Some j) = item_accepts d j j.copying.left
-
-begin_accepts : (sync : Bool) (d : TriplexState) → (hold_begun_if sync d).accepted ≡ d.accepted
-begin_accepts false d = refl
-begin_accepts true d = by_open d.reintegration
-  where
-    by_open : (o : Option Reintegration) → (hold_begun d o).accepted ≡ d.accepted
-    by_open None = refl
-    by_open (Some j) = refl
-
-verdict_accepts : (d : TriplexState) (v : Verdict) → (after_verdict r2000_triplex d v).next.accepted ≡ d.accepted
-verdict_accepts d Waiting = refl
-verdict_accepts d Split = refl
-verdict_accepts d (Done r differ late) = refl
-
-work_accepts : (d : TriplexState) (mask : ℕ) → (after_working_tick r2000_triplex d mask).next.accepted ≡ d.accepted
-work_accepts d mask =
-    begin_accepts (is_sync_verdict (tick_verdict r2000_triplex d mask)) (after_verdict r2000_triplex (after_firings r2000_triplex d mask) (tick_verdict r2000_triplex d mask)).next
-    ∙ verdict_accepts (after_firings r2000_triplex d mask) (tick_verdict r2000_triplex d mask)
-
-tick_accepts : (d : TriplexState) (mask : ℕ) → (ticked r2000_triplex d mask).next.accepted ≡ d.accepted
-tick_accepts d mask = by_test (is_holding d.reintegration)
-  where
-    by_test : (b : Bool) → (if b then (let s : StepResult = record { next = after_hold_tick d mask; effects = no_effects } in s) else after_working_tick r2000_triplex d mask).next.accepted ≡ d.accepted
-    by_test true = copy_accepts (after_idle_tick d mask) d.reintegration
-    by_test false = work_accepts d mask
-
 accepts_unless : (refusal : Option Reason) (new old : TriplexState) → new.accepted ≡ old.accepted → (next_unless_refused refusal new old).accepted ≡ old.accepted
 accepts_unless None new old h = h
 accepts_unless (Some reason) new old h = refl
@@ -98,7 +83,7 @@ accepts_unless (Some reason) new old h = refl
 pub plant_ticked : (d : TriplexState) (mask : ℕ) → IsPlant d → d.halt ≡ None → d.ticks < 2 ^ 40 → IsPlant (next_after_tick r2000_triplex d mask)
 plant_ticked d mask k runs room = record {
   state = tick_keeps_state r2000_triplex d mask r2000_triplex_core k.state runs room;
-  events = let same = accepts_unless (tick_refusal d mask) (ticked r2000_triplex d mask).next d (tick_accepts d mask) in let events = k.events in omega arith;
+  events = let same = accepts_unless (tick_refusal d mask) (ticked r2000_triplex d mask).next d (tick_accepts r2000_triplex d mask) in let events = k.events in omega arith;
 }
 
 -- an act accepts at most one
@@ -119,6 +104,7 @@ act_accepts d (Revive p) = by_test (is_revivable p d)
     by_test true = omega arith
     by_test false = omega arith
 act_accepts d (Board fault) = omega arith
+act_accepts d (Mend board) = omega arith
 
 few_unless : (refusal : Option Reason) (new old : TriplexState) → new.accepted ≤ old.accepted + 1 → (next_unless_refused refusal new old).accepted ≤ old.accepted + 1
 few_unless None new old h = h
@@ -126,7 +112,7 @@ few_unless (Some reason) new old h = omega arith
 
 -- the ranges of an act are those of a call
 pub act_call : (act : Act) → IsActInRange act → IsActCall act
-act_call (EventAct event) h = tt
+act_call (EventAct event) h = h
 act_call (Poke p k v) h = tt
 act_call (PokeLocal p i v) h = tt
 act_call (Drive p posted) h = tt
@@ -134,6 +120,7 @@ act_call (Mute p) h = tt
 act_call (Remove p) h = tt
 act_call (Revive p) h = tt
 act_call (Board fault) h = h
+act_call (Mend board) h = tt
 
 pub plant_acted : (d : TriplexState) (act : Act) → IsPlant d → d.halt ≡ None → d.accepted < 2 ^ 60 → IsActInRange act → IsPlant (next_after_act d act)
 plant_acted d act k runs room range = record {

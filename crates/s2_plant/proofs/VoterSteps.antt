@@ -15,20 +15,20 @@ use Rattle.s2_triplex_laws.proofs.VoterTurn.{joiner_added, latching_calls, membe
 use Rattle.s2_plant.specs.StepParts.{voter_decided, voter_joined}
 
 -- a voter that keeps its rule after a tick kept it before
-age_before : (age : Option ℕ) → IsAge (older age) → IsAge age
-age_before None h = tt
-age_before (Some age) h = by_test (nat_lt age 128) refl h
+age_before : (timer : ℕ) (age : Option ℕ) → IsAge timer (older timer age) → IsAge timer age
+age_before timer None h = tt
+age_before timer (Some age) h = by_test (nat_lt age timer) refl h
   where
-    by_test : (b : Bool) → nat_lt age 128 ≡ b → IsAge (Some (if b then age + 1 else age)) → IsAge (Some age)
-    by_test true e k = let less : age < 128 = grind (arith, nat_tests) in omega arith
+    by_test : (b : Bool) → nat_lt age timer ≡ b → IsAge timer (Some (if b then age + 1 else age)) → IsAge timer (Some age)
+    by_test true e k = let less : age < timer = grind (arith, nat_tests) in omega arith
     by_test false e k = k
 
-age_there : (age : Option ℕ) → is_some (older age) ≡ is_some age
-age_there None = refl
-age_there (Some age) = refl
+age_there : (timer : ℕ) (age : Option ℕ) → is_some (older timer age) ≡ is_some age
+age_there timer None = refl
+age_there timer (Some age) = refl
 
 before_tick : (v : VoterState) → IsVoter (ticked_voter v) → IsVoter v
-before_tick v k = record { members = k.members; latches = k.latches; latched = k.latched; aged = sym (age_there v.age) ∙ k.aged; age = age_before v.age k.age }
+before_tick v k = record { members = k.members; latches = k.latches; latched = k.latched; aged = sym (age_there v.timer v.age) ∙ k.aged; age = age_before v.timer v.age k.age; timer = k.timer }
 
 pub latched_all : (ports : ℕ → Option Posted) (v : VoterState) → IsVoter (ticked_voter v) → after_latching ports v ≡ latched_from ports v
 latched_all ports v kept = latching_calls ports v (before_tick v kept)

@@ -7,28 +7,34 @@ use Rattle.s2_ports.specs.declared.requests.Request.{Request}
 use Rattle.s2_ports.specs.declared.requests.Posted.{Posted}
 use Rattle.s2_clock.specs.ClockWatch.{is_firing}
 use Rattle.s2_cpu.specs.Processor.{Processor}
+use Rattle.s2_revive.specs.MendingBoards.{mended_by}
 use Rattle.s2_device.specs.declared.effect.Effect.{Effect}
+use Rattle.s2_base.specs.Map.{place_at}
+use Rattle.s2_ports.specs.declared.requests.Kind.{Kind}
+use Rattle.s2_private.specs.PrivateValues.{gathered}
 use Rattle.s2_machine.specs.OutsideAccess.{AccessResult}
+use Rattle.s2_machine.specs.PrivateArea.{stores_at}
 use Rattle.s2_voter.specs.declared.verdicts.Verdict.{Verdict}
 use Rattle.s2_voter.specs.VoterState.{VoterState, is_member}
 use Rattle.s2_voter.specs.VoterCalls.{no_latches}
 use Rattle.s2_script.specs.declared.entry.Act.{Act}
-use Rattle.s2_script.specs.declared.entry.Act.TheVariants.{Event as EventAct, Poke, PokeLocal, Drive, Mute, Remove, Revive, Board}
+use Rattle.s2_script.specs.declared.entry.Act.TheVariants.{Event as EventAct, Poke, PokeLocal, Drive, Mute, Remove, Revive, Board, Mend}
 use Rattle.s2_journal.specs.declared.note.Note.{Note}
 use Rattle.s2_triplex.specs.declared.membership.Membership.{Membership}
 use Rattle.s2_triplex.specs.TriplexCores.{TriplexCore}
-use Rattle.s2_triplex.specs.ModuleState.{ModuleState}
+use Rattle.s2_triplex.specs.ModuleState.{ModuleState, module_framed}
 use Rattle.s2_triplex.specs.ModuleFiring.{module_ticked, is_posting}
 use Rattle.s2_triplex.specs.ModuleFaults.{module_poked, module_local_poked, module_driven, module_muted, module_restored}
 use Rattle.s2_triplex.specs.TriplexState.{TriplexState, Reintegration, three_of, module_at, membership_at, posted_at}
-use Rattle.s2_triplex.specs.VotedAccess.{VotedAccess}
-use Rattle.s2_triplex.specs.VoterDecision.{StepResult, membership_unless_left, answered_if, after_verdict, is_sync_verdict}
+use Rattle.s2_triplex.specs.VotedAccess.{VotedAccess, private_values}
+use Rattle.s2_triplex.specs.VoterDecision.{StepResult, membership_unless_left, answered_if, after_verdict, is_idle_verdict, is_sync_verdict}
 use Rattle.s2_join.specs.declared.item.Item.{Item}
 use Rattle.s2_join.specs.declared.item.Item.TheVariants.{Local, Saved}
 use Rattle.s2_join.specs.CopyOrder.{is_last_item}
 use Rattle.s2_triplex.specs.CopyHolds.{hold_begun_if, idled_if, unmarked_if, word_set_if, membership_joined, after_copy, word_copied, saved_word_copied}
 use Rattle.s2_triplex.specs.ActStep.{module_replaced, membership_revived}
-use Rattle.s2_triplex.specs.StepTurns.{Turn, effect_notes, repair_notes, delivery_notes, joined_notes_if}
+use Rattle.s2_triplex.specs.TickStep.{idled_after}
+use Rattle.s2_triplex.specs.StepTurns.{Turn, effect_notes, turn_notes, repair_notes, delivery_notes, joined_notes_if}
 
 -- ---- what a step makes known
 
@@ -49,6 +55,10 @@ abbrev pub event_list : Option Event → List Event
 event_list None = []
 event_list (Some event) = event ∷ []
 
+-- the event of an agreed store to PRIV, from the latches and the modules
+abbrev pub agreed_events : VoterState → List ModuleState → Request → Kind → List Event
+agreed_events v modules r kind = if stores_at kind (place_at r.address) then gathered v r (private_values modules) ∷ [] else []
+
 -- ---- firings
 
 -- the modules after their firings
@@ -61,6 +71,9 @@ posting_tick k tick mask v modules posted p = if (is_firing mask p && is_posting
 
 abbrev pub posting_ticks : TriplexCore → ℕ → ℕ → VoterState → List ModuleState → List ℕ → List ℕ
 posting_ticks k tick mask v modules posted = three_of (posting_tick k tick mask v modules posted)
+
+abbrev pub three_postings : Bool → Bool → Bool → ℕ → List ℕ → List ℕ
+three_postings a b c tick posted = (if a then tick else posted_at posted 0) ∷ (if b then tick else posted_at posted 1) ∷ (if c then tick else posted_at posted 2) ∷ []
 
 -- the modules after firings that are counted alone
 abbrev pub idled_modules : ℕ → List ModuleState → List ModuleState
@@ -78,7 +91,7 @@ memberships_left named memberships = three_of (λ p. membership_unless_left (nam
 
 -- and are no members; no latch and no age
 abbrev pub voter_decided : (ℕ → Bool) → VoterState → VoterState
-voter_decided named v = record { members = three_of (λ p. not (named p) && is_member v p); latches = no_latches; age = None }
+voter_decided named v = record { members = three_of (λ p. not (named p) && is_member v p); latches = no_latches; age = None; timer = v.timer }
 
 -- the members are answered
 abbrev pub answered_modules : TriplexCore → VoterState → Request → ℕ → ℕ → List ModuleState → List ModuleState
@@ -92,9 +105,19 @@ effect_of a = record { word = a.word; out = a.out; halt = a.halt }
 abbrev pub with_access : TriplexState → VotedAccess → TriplexState
 with_access d a = record d { boards = a.boards; device = a.device; inbox = a.inbox; delivered = a.delivered; halt = a.halt }
 
--- the voter's turn with a verdict
+-- the voter's turn with a verdict, but for the word that an idle turn copies
+abbrev pub after_voters_verdict : TriplexCore → TriplexState → Verdict → StepResult
+after_voters_verdict k d v = record { next = hold_begun_if (is_sync_verdict v) (after_verdict k d v).next; effects = (after_verdict k d v).effects }
+
+-- and with it
 abbrev pub after_voters_turn : TriplexCore → TriplexState → Verdict → StepResult
-after_voters_turn k d v = record { next = hold_begun_if (is_sync_verdict v) (after_verdict k d v).next; effects = (after_verdict k d v).effects }
+after_voters_turn k d v = record { next = idled_after (is_idle_verdict v) (after_voters_verdict k d v).next; effects = (after_voters_verdict k d v).effects }
+
+-- what it makes known
+abbrev pub voters_turn : TriplexCore → TriplexState → Verdict → Turn
+voters_turn k d v =
+    let step = after_voters_turn k d v in
+    record { notes = turn_notes (is_idle_verdict v) d.ticks (mended_by d.boards.mending) step.effects; out = step.effects.out; halt = step.next.halt }
 
 -- ---- a reintegration
 
@@ -163,6 +186,12 @@ abbrev pub copied_note : ℕ → Option Reintegration → List Note
 copied_note tick None = []
 copied_note tick (Some j) = joined_notes_if (is_last_item (first_item j.copying.left)) tick j
 
+-- ---- the frame
+
+-- each module with another frame
+abbrev pub framed_modules : ℕ → List ModuleState → List ModuleState
+framed_modules frame modules = three_of (λ p. module_framed frame (module_at modules p))
+
 -- ---- acts
 
 -- the module of a processor after an act that disturbs it
@@ -175,6 +204,7 @@ changed_by (EventAct event) m = m
 changed_by (Remove p) m = m
 changed_by (Revive p) m = m
 changed_by (Board fault) m = m
+changed_by (Mend board) m = m
 
 -- one module is another
 abbrev pub modules_replaced : ℕ → ModuleState → List ModuleState → List ModuleState

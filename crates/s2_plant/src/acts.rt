@@ -28,6 +28,7 @@ fn change(replica: &mut Module, act: &Act)
         Act::Drive { p: _, posted } => replica.drive(posted),
         Act::Mute { p: _ } => replica.mute(),
         Act::Event(_) | Act::Remove { p: _ } | Act::Revive { p: _ } | Act::Board(_) => {}
+        Act::Mend { board: _ } => {}
     }
 }
 

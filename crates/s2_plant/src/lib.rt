@@ -8,6 +8,7 @@ mod acts;
 mod decision;
 mod deliveries;
 mod firing;
+mod frame;
 mod inbox;
 mod parts;
 mod plant;
@@ -15,7 +16,7 @@ mod reintegration;
 mod turn;
 
 pub use plant::Plant;
-pub use turn::Turn;
+pub use turn::{TickRun, Turn};
 
 #[cfg(test)]
 mod tests;

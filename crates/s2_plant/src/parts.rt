@@ -2,49 +2,55 @@
 
 ghost use Rattle.s2_base.specs.declared.map.TheConstants.{GLOBAL_WORDS, LOCAL_WORDS};
 ghost use Rattle.s2_clock.specs.ClockWatch.{slow_of};
+ghost use Rattle.s2_clock.specs.Frames.{IsFrame};
 ghost use Rattle.s2_clock.specs.declared.numbers.TheConstants.{FRAME};
 ghost use Rattle.s2_device.specs.DeviceState.{lines_of};
 ghost use Rattle.s2_join.specs.declared.join.TheConstants.{SAVED_WORDS};
 ghost use Rattle.s2_journal.specs.declared.note.Note.TheVariants.{Joined as JoinedNote};
 ghost use Rattle.s2_machine.specs.Cores.{halt_after, is_sync as is_sync_kind};
 ghost use Rattle.s2_duplex.specs.ToleratedFaults.{IsFaultBelow};
+ghost use Rattle.s2_ports.specs.Events.{comes_from_outside};
 ghost use Rattle.s2_plant.specs.ActRanges.{IsActInRange, is_board_act};
-ghost use Rattle.s2_plant.specs.StepParts.{access_notes, after_voters_turn, blank_turn, changed_by, copied_count, copied_note, effects_turn, copied_modules, first_copied, is_saved, with_access};
+ghost use Rattle.s2_plant.specs.StepParts.{access_notes, after_voters_turn, after_voters_verdict, blank_turn, changed_by, copied_count, copied_note, effects_turn, voters_turn, copied_modules, first_copied, is_saved, with_access};
+ghost use Rattle.s2_plant.specs.TickRests.{rest_ahead, still_ahead};
+ghost use Rattle.s2_plant.specs.TickRuns.{IsSkip, IsClear, IsTickRun, after_ticks, answer_after, answer_of};
+ghost use Rattle.s2_revive.specs.MendingBoards.{mended_by};
 ghost use Rattle.s2_saved.specs.SavedWords.{saved_words};
-ghost use Rattle.s2_triplex.specs.ActStep.{acted, module_disturbed, removed, revived, revived_if_out, event_received};
+ghost use Rattle.s2_triplex.specs.ActStep.{acted, mend_begun, module_disturbed, removed, revived, revived_if_out, event_received};
 ghost use Rattle.s2_triplex.specs.CopyHolds.{after_hold_tick, after_idle_tick, hold_begun, hold_begun_if, is_holding, joined, lowest_member};
 ghost use Rattle.s2_triplex.specs.R2000Triplex.{r2000_triplex};
 ghost use Rattle.s2_triplex.specs.ReferenceMachine.{runs};
 ghost use Rattle.s2_triplex.specs.StepRefusals.{act_refusal};
-ghost use Rattle.s2_triplex.specs.StepTurns.{act_answer, act_turn, hold_turn, next_after_act, next_after_tick, tick_answer, tick_turn, working_turn};
+ghost use Rattle.s2_triplex.specs.StepTurns.{act_answer, act_turn, hold_turn, mended_notes, next_after_act, next_after_tick, tick_answer, tick_turn, working_turn};
 ghost use Rattle.s2_triplex.specs.TickFirings.{after_firings};
-ghost use Rattle.s2_triplex.specs.TickStep.{after_working_tick, ticked};
-ghost use Rattle.s2_triplex.specs.TriplexState.{Reintegration, module_at, started_triplex};
+ghost use Rattle.s2_triplex.specs.TickStep.{after_working_tick, ticked, idled_after};
+ghost use Rattle.s2_triplex.specs.TriplexState.{Reintegration, module_at, started_triplex, with_frame};
 ghost use Rattle.s2_triplex.specs.VotedAccess.{VotedAccess, sync_access, seen_in, voted_access};
 ghost use Rattle.s2_triplex.specs.VoterDecision.{after_decision, is_named};
 ghost use Rattle.s2_agree.specs.AgreedCount.{agreed_count};
+ghost use Rattle.s2_voter.specs.VoterState.{latch_of, IsVoter};
 ghost use Rattle.s2_voter.specs.Verdicts.{is_shared, verdict_of};
 ghost use Rattle.s2_voter.specs.declared.verdicts.Verdict.TheVariants.{Done};
-ghost use Rattle.std.specs.Prelude.{◌≡◌, ◌<◌, ◌≤◌, ◌^◌, ◌-◌, ◌+◌, ◌++◌, ◌∷◌, [], IfOk, IfSome, None, Some, false, true, not, length, slice_index, slice_index_or};
+ghost use Rattle.std.specs.Prelude.{ℕ, ◌≡◌, ◌<◌, ◌≤◌, ◌^◌, ◌-◌, ◌+◌, ◌++◌, ◌∷◌, [], IfOk, IfSome, None, Some, false, true, is_none, not, length, slice_index, slice_index_or};
 
 use crate::inbox::Inbox;
 use crate::reintegration::{self, OpenReintegration};
-use crate::turn::{self, Turn};
-use crate::{access, acts, decision, deliveries, firing};
+use crate::turn::{self, TickEnd, Turn};
+use crate::{access, acts, decision, deliveries, firing, frame};
 use arrayvec::ArrayVec;
 use s2_agree::agreed;
 use s2_base::Memory;
-use s2_clock::Watch;
+use s2_clock::{FRAME, Watch, covers};
 use s2_device::Board;
-use s2_duplex::Duplex;
 use s2_elf::Image;
 use s2_join::{Item, SAVED_WORDS};
 use s2_journal::{Note, Reason, Why};
 use s2_module::Module;
 use s2_ports::{BoardFault, Event, Kind, Reply, Request};
+use s2_revive::Revive;
 use s2_script::Act;
 use s2_triplex::Membership;
-use s2_voter::{Verdict, Voter};
+use s2_voter::{Verdict, Voter, timer_of};
 use std::alloc::Global;
 use std::marker::Model;
 
@@ -54,7 +60,7 @@ pub struct Parts {
     modules: [Module; 3],
     memberships: [Membership; 3],
     voter: Voter,
-    boards: Duplex,
+    boards: Revive,
     devices: Board,
     inbox: Inbox,
     accepted: u64,
@@ -67,16 +73,16 @@ pub struct Parts {
     posted: [u64; 3],
     watch: Watch,
     reintegration: Option<OpenReintegration>,
+    frame: u16,
 }
 
 impl Model for Parts {
-    ghost use Rattle.s2_clock.specs.declared.numbers.TheConstants.{FRAME};
     ghost use Rattle.s2_triplex.specs.TriplexState.{TriplexState};
 
     ghost Value = { TriplexState };
 
     ghost view = { λ p. record {
-      frame = FRAME;
+      frame = p.frame;
       modules = p.modules;
       memberships = p.memberships;
       voter = p.voter;
@@ -124,6 +130,29 @@ fn is_sync(kind: Kind) -> bool
     }
 }
 
+/// Whether no board mends.
+#[tactic(auto, using(crate::proofs::QuietTicks::mends_none, crate::proofs::QuietTicks::none_mends))]
+fn is_unmended(boards: &Revive) -> bool
+    ensures test { result ≡ is_none boards.now.mending }
+    ensures rests { result ≡ true → boards.now.mending ≡ None }
+{
+    boards.mending().is_none()
+}
+
+/// So many ticks, and at most as many as pass before the timer can run out, or as words are still to copy to a board
+/// that mends.
+fn stretch(limit: u64, left: u64) -> u64
+    requires limit { 0 < limit }
+    requires left { 0 < left }
+    ensures some { 0 < result }
+    ensures few { result ≤ 128 }
+    ensures within { result ≤ limit }
+    ensures mends { result ≤ left }
+{
+    let most = if limit < 128 { limit } else { 128 };
+    if left < most { left } else { most }
+}
+
 impl Parts {
     /// The machine at the start of a program.
     ///
@@ -137,7 +166,7 @@ impl Parts {
         let first = Module::new(alloc, image)?;
         let second = Module::new(alloc, image)?;
         let third = Module::new(alloc, image)?;
-        let boards = Duplex::new(alloc, image.global.as_slice())?;
+        let boards = Revive::new(alloc, image.global.as_slice())?;
         let devices = Board::new(alloc)?;
         let inbox = Inbox::new(alloc)?;
         Ok(Parts {
@@ -157,7 +186,20 @@ impl Parts {
             posted: [0; 3],
             watch: Watch::new(),
             reintegration: None,
+            frame: FRAME as u16,
         })
+    }
+
+    /// A frame has so many run cycles in each module, and the timer of the voter is that of it.
+    pub fn set_frame(&mut self, frame: u16)
+        requires frame { IsFrame frame }
+        requires first { (p : ℕ) → p < 3 → (module_at self.old.modules p).cpu.run ≡ 0 }
+        requires unlatched { (p : ℕ) → p < 3 → latch_of self.old.voter p ≡ None }
+        ensures { self.new ≡ with_frame frame self.old }
+    {
+        frame::set_frames(&mut self.modules, frame);
+        self.voter.set_timer(timer_of(frame as u64));
+        self.frame = frame;
     }
 
     /// The firings of a tick, and the latching of what the ports hold: the machine at its verdict.
@@ -169,7 +211,7 @@ impl Parts {
     {
         self.watch.record(mask, self.tainted);
         self.ticks += 1;
-        firing::fire_all(
+        let _posts = firing::fire_all(
             &mut self.modules,
             &mut self.posted,
             &self.voter,
@@ -180,7 +222,8 @@ impl Parts {
         firing::latch_all(&mut self.voter, &self.modules);
     }
 
-    /// The load or store that was agreed.
+    /// The load or store that was agreed. Before a store to PRIV the private values of those that agree on it
+    /// are delivered.
     fn access(&mut self, request: &Request, notes: &mut ArrayVec<Note, 12>) -> Given
         requires room { length notes.old.items ≤ 2 }
         requires kind { is_sync_kind request.now.kind ≡ false }
@@ -192,9 +235,12 @@ impl Parts {
         ensures notes { notes.new.items
             ≡ notes.old.items ++ access_notes self.old.ticks (voted_access r2000_triplex self.old request.now) }
     {
+        let private = access::private_event(&self.modules, &self.voter, request);
+        access::deliver_private(&mut self.devices, private);
         let accessed = access::access(&mut self.boards, &mut self.devices, request);
         self.halt = halt_after_access(self.halt, accessed.effect.halt);
         access::note_repair(notes, self.ticks, request.address, accessed.repaired);
+        access::note_private(notes, request.run, private);
         Given {
             reply: Reply {
                 word: accessed.effect.word,
@@ -322,9 +368,9 @@ impl Parts {
         requires resting { is_holding self.old.reintegration ≡ false }
         requires open { is_saved self.old.reintegration ≡ false }
         ensures machine { self.new
-            ≡ (after_voters_turn r2000_triplex self.old (Done request.now differ late)).next }
+            ≡ (after_voters_verdict r2000_triplex self.old (Done request.now differ late)).next }
         ensures turn { turn.new
-            ≡ effects_turn self.old.ticks (after_voters_turn r2000_triplex self.old (Done request.now differ late)) }
+            ≡ effects_turn self.old.ticks (after_voters_verdict r2000_triplex self.old (Done request.now differ late)) }
     {
         decision::note_out(&mut turn.notes, self.ticks, Why::Differ, differ);
         decision::note_out(&mut turn.notes, self.ticks, Why::Late, late);
@@ -341,19 +387,38 @@ impl Parts {
         turn.halt = self.halt;
     }
 
-    /// The voter's turn: its verdict, and a decision where one is due.
+    /// An idle turn of the voter: one more word of a board that mends is copied, with a note where the board is
+    /// in with it.
+    fn idle_turn(&mut self, turn: &mut Turn)
+        requires blank { turn.old ≡ blank_turn }
+        ensures machine { self.new ≡ idled_after true self.old }
+        ensures turn { turn.new
+            ≡ record { notes = mended_notes self.old.ticks (mended_by self.old.boards.mending); out = None; halt = self.old.halt } }
+    {
+        match self.boards.idle() {
+            Some(board) => self.noting(
+                Note::Mended {
+                    tick: self.ticks,
+                    board,
+                },
+                turn,
+            ),
+            None => self.quiet(turn),
+        }
+    }
+
+    /// The voter's turn: its verdict, and a decision where one is due; else it is idle.
     fn decide(&mut self, turn: &mut Turn)
         requires blank { turn.old ≡ blank_turn }
         requires delivered { self.old.delivered ≤ 2 ^ 64 - 9 }
         requires resting { is_holding self.old.reintegration ≡ false }
         requires open { is_saved self.old.reintegration ≡ false }
         ensures machine { self.new ≡ (after_voters_turn r2000_triplex self.old (verdict_of self.old.voter)).next }
-        ensures turn { turn.new
-            ≡ effects_turn self.old.ticks (after_voters_turn r2000_triplex self.old (verdict_of self.old.voter)) }
+        ensures turn { turn.new ≡ voters_turn r2000_triplex self.old (verdict_of self.old.voter) }
     {
         match self.voter.verdict() {
-            Verdict::Waiting => self.quiet(turn),
-            Verdict::Split => self.quiet(turn),
+            Verdict::Waiting => self.idle_turn(turn),
+            Verdict::Split => self.idle_turn(turn),
             Verdict::Done {
                 request,
                 differ,
@@ -493,17 +558,155 @@ impl Parts {
         ensures machine { self.new ≡ next_after_tick r2000_triplex self.old mask }
         ensures turn { result ≡ tick_answer r2000_triplex self.old mask }
     {
+        let mut turn = turn::blank();
+        let refused = self.tick_into(mask, &mut turn);
+        turn::answer(refused, turn)
+    }
+
+    /// Whether ticks with a mask make nothing known until a processor posts a request.
+    fn is_clear(&self, mask: u8) -> bool
+        ensures { result ≡ true → IsClear self.now mask }
+    {
+        covers(mask, self.tainted)
+            && !reintegration::is_holding(&self.reintegration)
+            && firing::is_unlatched(&self.voter)
+            && firing::none_wait(&self.modules, &self.voter)
+    }
+
+    /// The firings of ticks with a mask, at most so many, up to the first at which a processor posts, and the
+    /// latching after it. How many ticks came before that one, all without a request.
+    fn fire_on(&mut self, mask: u8, limit: u64) -> u64
+        requires mask { mask < 8 }
+        requires some { 0 < limit }
+        requires ticks { self.old.ticks + limit ≤ 2 ^ 40 }
+        requires running { self.old.halt ≡ None }
+        requires clear { IsClear self.old mask }
+        ensures within { result < limit }
+        ensures silent { (j : ℕ) → j < result → answer_after r2000_triplex mask j self.old ≡ Ok blank_turn }
+        ensures machine { self.new ≡ after_firings r2000_triplex (after_ticks r2000_triplex mask result self.old) mask }
+        ensures lawful { slow_of mask (after_ticks r2000_triplex mask result self.old).tainted (after_ticks r2000_triplex mask result self.old).windows ≡ None }
+        ensures free { is_holding (after_ticks r2000_triplex mask result self.old).reintegration ≡ false }
+        ensures delivered { self.new.delivered ≡ self.old.delivered }
+        ensures reintegration { self.new.reintegration ≡ self.old.reintegration }
+    {
+        let most = stretch(limit, self.boards.left());
+        let quiet = firing::fire_apart(
+            &mut self.modules,
+            &mut self.posted,
+            &mut self.voter,
+            mask,
+            self.accepted,
+            self.ticks,
+            most,
+        );
+        self.watch.record_fired(mask, self.tainted, quiet + 1);
+        self.ticks += quiet + 1;
+        self.boards.idle_by(quiet);
+        quiet
+    }
+
+    /// Ticks with a mask of a machine whose ticks make nothing known until a processor posts.
+    fn work_on(&mut self, mask: u8, limit: u64, turn: &mut Turn) -> u64
+        requires blank { turn.old ≡ blank_turn }
+        requires mask { mask < 8 }
+        requires some { 0 < limit }
+        requires ticks { self.old.ticks + limit ≤ 2 ^ 40 }
+        requires running { self.old.halt ≡ None }
+        requires delivered { self.old.delivered ≤ 2 ^ 64 - 9 }
+        requires open { is_saved self.old.reintegration ≡ false }
+        requires clear { IsClear self.old mask }
+        ensures { IsTickRun self.old mask limit result self.new (Ok turn.new) }
+    {
+        let before = self.fire_on(mask, limit);
+        self.decide(turn);
+        before
+    }
+
+    /// One tick. Why it is refused, if it is; then nothing changes.
+    fn tick_into(&mut self, mask: u8, turn: &mut Turn) -> Option<Reason>
+        requires blank { turn.old ≡ blank_turn }
+        requires mask { mask < 8 }
+        requires ticks { self.old.ticks < 2 ^ 40 }
+        requires delivered { self.old.delivered ≤ 2 ^ 64 - 9 }
+        requires open { is_saved self.old.reintegration ≡ false }
+        requires few { copied_count self.old.reintegration < 2 ^ 64 - 1 }
+        ensures machine { self.new ≡ next_after_tick r2000_triplex self.old mask }
+        ensures turn { answer_of result turn.new ≡ tick_answer r2000_triplex self.old mask }
+    {
         match self.watch.slow(mask, self.tainted) {
-            Some(slow) => Err(Reason::Slow {
+            Some(slow) => Some(Reason::Slow {
                 p: slow.p,
                 misses: slow.misses,
             }),
             None => {
-                let mut turn = turn::blank();
-                self.lawful_tick(mask, &mut turn);
-                Ok(turn)
+                self.lawful_tick(mask, turn);
+                None
             }
         }
+    }
+
+    /// Some ticks with a mask, at most so many, of which all but the last make nothing known.
+    pub fn tick_on(&mut self, mask: u8, limit: u64, turn: &mut Turn) -> TickEnd
+        requires blank { turn.old ≡ blank_turn }
+        requires mask { mask < 8 }
+        requires some { 0 < limit }
+        requires ticks { self.old.ticks + limit ≤ 2 ^ 40 }
+        requires running { self.old.halt ≡ None }
+        requires delivered { self.old.delivered ≤ 2 ^ 64 - 9 }
+        requires open { is_saved self.old.reintegration ≡ false }
+        requires few { copied_count self.old.reintegration < 2 ^ 64 - 1 }
+        ensures { IsTickRun self.old mask limit result.before self.new (answer_of result.refused turn.new) }
+    {
+        if self.is_clear(mask) {
+            let before = self.work_on(mask, limit, turn);
+            TickEnd {
+                before,
+                refused: None,
+            }
+        } else {
+            let refused = self.tick_into(mask, turn);
+            TickEnd { before: 0, refused }
+        }
+    }
+
+    /// For how many ticks with a mask nothing works and nothing is decided, where no clock is too slow.
+    fn still_ahead(&self, mask: u8) -> u64
+        ensures ahead { result ≡ still_ahead self.now mask }
+        ensures voter { IsVoter self.now.voter }
+    {
+        let rest = self.voter.rest();
+        if reintegration::is_holding(&self.reintegration)
+            || firing::any_would_latch(&self.modules, &self.voter)
+        {
+            0
+        } else {
+            firing::rest(&self.modules, &self.voter, mask).min(rest)
+        }
+    }
+
+    /// How many ticks of rest are ahead with a mask, where no clock is too slow: none where a board mends.
+    fn rest_ahead(&self, mask: u8) -> u64
+        ensures ahead { result ≡ rest_ahead self.now mask }
+        ensures voter { IsVoter self.now.voter }
+    {
+        let still = self.still_ahead(mask);
+        if is_unmended(&self.boards) { still } else { 0 }
+    }
+
+    /// The ticks of rest with a mask, at most `n`, all at once; and how many these are.
+    pub fn skip(&mut self, mask: u8, n: u64) -> u64
+        requires mask { mask < 8 }
+        requires ticks { self.old.ticks + n ≤ 2 ^ 40 }
+        requires running { self.old.halt ≡ None }
+        ensures { IsSkip self.old mask n result self.new }
+    {
+        firing::sized(&self.modules, &self.posted);
+        let ahead = self.rest_ahead(mask).min(n);
+        let ran = self.watch.run(mask, self.tainted, ahead);
+        firing::idle_all_by(&mut self.modules, mask, ran);
+        self.voter.age_by(ran);
+        self.ticks += ran;
+        ran
     }
 
     /// One note, and whether the program has halted.
@@ -518,6 +721,7 @@ impl Parts {
     /// An event joins the inbox, or is lost.
     fn receive(&mut self, event: Event, turn: &mut Turn)
         requires blank { turn.old ≡ blank_turn }
+        requires outside { comes_from_outside event ≡ true }
         requires events { self.old.accepted < 2 ^ 60 }
         ensures machine { self.new ≡ event_received event self.old }
         ensures turn { turn.new ≡ act_turn self.old (Act.Event event) }
@@ -655,6 +859,26 @@ impl Parts {
         }
     }
 
+    /// The mending of a board begins, with a note, where it is out and none mends.
+    fn mend(&mut self, board: u8, turn: &mut Turn)
+        requires blank { turn.old ≡ blank_turn }
+        requires board { board < 2 }
+        ensures machine { self.new ≡ mend_begun board self.old }
+        ensures turn { turn.new ≡ act_turn self.old (Act.Mend board) }
+    {
+        if self.boards.mend(board) {
+            self.noting(
+                Note::Mend {
+                    tick: self.ticks,
+                    board,
+                },
+                turn,
+            )
+        } else {
+            self.quiet(turn)
+        }
+    }
+
     /// An act that is lawful and no fault of a board.
     fn lawful_act(&mut self, act: &Act, turn: &mut Turn)
         requires blank { turn.old ≡ blank_turn }
@@ -673,6 +897,7 @@ impl Parts {
             Act::Remove { p } => self.remove(p, turn),
             Act::Revive { p } => self.revive(p, turn),
             Act::Board(_) => {}
+            Act::Mend { board } => self.mend(board, turn),
         }
     }
 
@@ -690,6 +915,7 @@ impl Parts {
             Act::Remove { p } => acts::second(self.tainted, p),
             Act::Revive { p: _ } => None,
             Act::Board(_) => None,
+            Act::Mend { board: _ } => None,
         }
     }
 
@@ -726,7 +952,8 @@ impl Parts {
             | Act::Drive { .. }
             | Act::Mute { .. }
             | Act::Remove { .. }
-            | Act::Revive { .. } => self.act_on_processor(act),
+            | Act::Revive { .. }
+            | Act::Mend { .. } => self.act_on_processor(act),
         }
     }
 

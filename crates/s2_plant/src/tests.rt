@@ -1,7 +1,8 @@
 //! The machine over short scripts, with faults of each kind. What is expected was worked out by hand from the rules
 //! of `docs/MACHINE.md`.
 
-ghost use Rattle.std.specs.Prelude.{◌≡◌, ◌+◌, ◌<◌, ◌≤◌, length};
+ghost use Rattle.s2_plant.specs.StepPromises.{IsFirstPlant};
+ghost use Rattle.std.specs.Prelude.{◌≡◌, ◌+◌, ◌<◌, ◌≤◌, length, IfOk};
 
 use crate::{Plant, Turn};
 use s2_base::{GLOBAL_WORDS, LOCAL_WORDS};
@@ -90,6 +91,7 @@ fn put(words: &mut [u32], at: usize, program: &[u32])
 fn machine(rt: &impl AllocGlobal, program: &[u32], service: &[u32]) -> Result<Plant, Fail>
     requires program { length program.now ≤ 16 }
     requires service { length service.now ≤ 16 }
+    ensures { IfOk result IsFirstPlant }
 {
     let alloc = rt.alloc();
     let mut local = vec![in alloc; 0u32; LOCAL_WORDS as usize]?;
@@ -214,6 +216,33 @@ fn a_key_is_echoed_after_the_frame_in_which_it_came(rt: HostRuntime) -> Result<(
     let event = Event::Key(0x41);
     expect(&rt, &told, &[Note::Delivered { run: 1024, event }], b"A");
     expect_counts(&rt, &plant, 1032, 1041);
+    Ok(())
+}
+
+#[test]
+fn a_short_frame_ends_after_its_run_cycles(rt: HostRuntime) -> Result<(), Fail> {
+    let mut plant = machine(&rt, &SPIN, &[])?;
+    plant.set_frame(64);
+    let told = run(&rt, &mut plant, &[key(0x61), t(7, 65)])?;
+    let event = Event::Key(0x61);
+    expect(&rt, &told, &[Note::Delivered { run: 64, event }], &[]);
+    expect_counts(&rt, &plant, 64, 65);
+    Ok(())
+}
+
+#[test]
+fn a_processor_is_late_after_384_ticks_with_a_long_frame(rt: HostRuntime) -> Result<(), Fail> {
+    let mut plant = machine(&rt, &SPIN, &[])?;
+    plant.set_frame(4096);
+    let mute = Entry::One(Act::Mute { p: 2 });
+    let told = run(&rt, &mut plant, &[mute, t(7, 5000)])?;
+    let out = Note::Out {
+        tick: 4513,
+        p: 2,
+        why: Why::Late,
+    };
+    expect(&rt, &told, &[out], &[]);
+    expect_counts(&rt, &plant, 4579, 5000);
     Ok(())
 }
 
@@ -354,6 +383,42 @@ fn a_bad_word_is_rewritten_and_the_last_board_is_kept(rt: HostRuntime) -> Result
     expect(&rt, &told, &[repaired, out], &[]);
     assert_eq!(rt; told.refused, Some(Reason::BothBoards { board: 1 }));
     expect_counts(&rt, &plant, 2, 2);
+    Ok(())
+}
+
+#[test]
+fn a_dead_board_is_mended_in_idle_turns(rt: HostRuntime) -> Result<(), Fail> {
+    let mut plant = machine(&rt, &GLOB, &[])?;
+    let dead = Entry::One(Act::Board(BoardFault::Dead { board: 1 }));
+    let mend = Entry::One(Act::Mend { board: 1 });
+    let told = run(&rt, &mut plant, &[dead, mend, t(7, 262_399)])?;
+    let out = Note::BoardDead { tick: 0, board: 1 };
+    let begun = Note::Mend { tick: 0, board: 1 };
+    let mended = Note::Mended {
+        tick: 262_399,
+        board: 1,
+    };
+    expect(&rt, &told, &[out, begun, mended], &[]);
+    expect_counts(&rt, &plant, 260_096, 262_399);
+    Ok(())
+}
+
+#[test]
+fn a_flip_beside_a_mending_board_is_refused(rt: HostRuntime) -> Result<(), Fail> {
+    let mut plant = machine(&rt, &GLOB, &[])?;
+    let dead = Entry::One(Act::Board(BoardFault::Dead { board: 1 }));
+    let mend = Entry::One(Act::Mend { board: 1 });
+    let flip = Entry::One(Act::Board(BoardFault::Flip {
+        board: 0,
+        index: 0,
+        bit: 3,
+    }));
+    let told = run(&rt, &mut plant, &[dead, mend, t(7, 1), flip])?;
+    let out = Note::BoardDead { tick: 0, board: 1 };
+    let begun = Note::Mend { tick: 0, board: 1 };
+    expect(&rt, &told, &[out, begun], &[]);
+    assert_eq!(rt; told.refused, Some(Reason::BothBoards { board: 0 }));
+    expect_counts(&rt, &plant, 1, 1);
     Ok(())
 }
 

@@ -1,11 +1,14 @@
 -- The ticks of a repair.
 use Rattle.std.proofs.Common.{◌≡◌, ℕ, suc, ◌+◌, ◌-◌, ◌*◌, ◌/◌, ◌%◌, ◌<◌, ◌≤◌, refl, sym, ap, ◌∙◌, inl, inr, arith, mod-lt}
-use Rattle.std.specs.Prelude.{Bool, true, false, ◌⊎◌}
+use Rattle.std.specs.Prelude.{Bool, true, false, ◌⊎◌, if◌then◌else◌}
 use Rattle.std.proofs.Math.Nat.{mod-add-div', mul-le-mul_right}
 use Rattle.std.proofs.lemmas.Bool.{true≢false, cases_lt}
+use Rattle.s2_clock.specs.Frames.{IsFrame, is_long}
+use Rattle.s2_voter.specs.Timers.{timer_of}
+use Rattle.s2_plant_laws.specs.FrameNumbers.{stated_reintegration_of}
 use Rattle.s2_plant_laws.specs.WorkSpan.{span}
-use Rattle.s2_plant_laws.specs.RepairBound.{RepairTally, TicksCounted, RepairCounts, next_sync, NextSyncMoves, StatedReintegration}
-use Rattle.s2_plant_laws.proofs.Spans.{span_bounds}
+use Rattle.s2_plant_laws.specs.RepairBound.{RepairTally, TicksCounted, RepairCounts, next_sync, NextSyncMoves, repair_ticks, StatedReintegration}
+use Rattle.s2_plant_laws.proofs.Spans.{span_bounds, short_frame, skew_by}
 use Rattle.s2_plant_laws.proofs.RepairNumbers.{progress_most}
 
 access : (c : RepairTally) (j e : ℕ) → 1 ≤ j → (e ≤ span j) ⊎ (c.tick + e ≤ c.revived + 1) → TicksCounted c → TicksCounted (record c { tick = c.tick + e; run = c.run + j })
@@ -58,9 +61,39 @@ first frame run false = omega arith
 pub next_sync_moves : NextSyncMoves
 next_sync_moves = record { access = up_to; sync = after_sync; first = first }
 
+-- a repair's ticks, by the kind of the frame
+covers_by : (long : Bool) (frame : ℕ) → is_long frame ≡ long → IsFrame frame →
+    repair_ticks frame + span (frame + 1) + (if long then 384 else 128) ≤ (if long then 17000000 else 5000000)
+covers_by true frame is f = let high = f.high in let s = (skew_by true frame (frame + 1) is f (omega arith) (omega arith)).1 in omega arith
+covers_by false frame is f = let short = short_frame frame is in let s = (skew_by false frame (frame + 1) is f (omega arith) (omega arith)).1 in omega arith
+
+pub covers : (frame : ℕ) → IsFrame frame → repair_ticks frame + span (frame + 1) + timer_of frame ≤ stated_reintegration_of frame
+covers frame f = covers_by (is_long frame) frame refl f
+
+-- the present tick, by the kind of the frame
+in_time_by : (long : Bool) (frame : ℕ) (c : RepairTally) (now : ℕ) → is_long frame ≡ long → IsFrame frame → c.syncs ≤ 545 → c.words ≤ 544 * 1024 + 278528 + 176 → c.run ≤ c.revived_run + frame * (c.syncs + 1) →
+    now < c.tick + span (frame + 1) + (if long then 384 else 128) → TicksCounted c → now < c.revived + (if long then 17000000 else 5000000)
+in_time_by true frame c now is f syncs words run soon t =
+    let high = f.high in
+    let s = (skew_by true frame (frame + 1) is f (omega arith) (omega arith)).1 in
+    let steps = mul-le-mul_right (c.syncs + 1) high in
+    let k = t.ticks in
+    omega arith
+in_time_by false frame c now is f syncs words run soon t =
+    let short = short_frame frame is in
+    let s = (skew_by false frame (frame + 1) is f (omega arith) (omega arith)).1 in
+    let steps = mul-le-mul_right (c.syncs + 1) short in
+    let k = t.ticks in
+    omega arith
+
 pub stated_reintegration : StatedReintegration
 stated_reintegration = record {
   sum = refl;
-  in_time = λ c j now same h run soon t. let m = progress_most c.words j h in let a = m.0 in let b = m.1 in let k = t.ticks in omega arith;
-  longest = λ c j now same h run soon t. let m = progress_most c.words j h in let a = m.0 in let b = m.1 in let k = t.ticks in omega arith;
+  long_sum = refl;
+  covers = covers;
+  in_time = λ frame c j now f same h run soon t.
+      let m = progress_most c.words j h in
+      let a = m.0 in
+      let b = m.1 in
+      in_time_by (is_long frame) frame c now refl f (omega arith) (omega arith) run soon t;
 }

@@ -8,21 +8,21 @@ use Rattle.s2_voter.specs.Verdicts.{is_timed_out}
 use Rattle.s2_plant_laws.specs.BoundedSkew.{IsBeforeTimer, age_after}
 use Rattle.s2_plant_laws.specs.VoterTimer.{VoterTimer}
 
-grows : (age : Option ℕ) (two : Bool) → IsBeforeTimer 128 age → started_age two (older age) ≡ age_after age two
-grows None true h = refl
-grows None false h = refl
-grows (Some age) two h =
-    let test : nat_lt age 128 ≡ true = grind (arith, nat_tests) in ap (λ (b : Bool). Some (if b then age + 1 else age)) test
+grows : (timer : ℕ) (age : Option ℕ) (two : Bool) → IsBeforeTimer timer age → started_age two (older timer age) ≡ age_after age two
+grows timer None true h = refl
+grows timer None false h = refl
+grows timer (Some age) two h =
+    let test : nat_lt age timer ≡ true = grind (arith, nat_tests) in ap (λ (b : Bool). Some (if b then age + 1 else age)) test
 
-not_late : (n : ℕ) → nat_le 128 n ≡ false → n < 128
-not_late n h = grind (arith, nat_tests)
+not_late : (timer n : ℕ) → nat_le timer n ≡ false → n < timer
+not_late timer n h = grind (arith, nat_tests)
 
-before : (age : Option ℕ) → is_timed_out age ≡ false → IsBeforeTimer 128 age
-before None h = tt
-before (Some age) h = not_late age h
+before : (timer : ℕ) (age : Option ℕ) → is_timed_out timer age ≡ false → IsBeforeTimer timer age
+before timer None h = tt
+before timer (Some age) h = not_late timer age h
 
-late : (age : ℕ) → is_timed_out (Some age) ≡ true → 128 ≤ age
-late age h = grind (arith, nat_tests)
+late : (timer age : ℕ) → is_timed_out timer (Some age) ≡ true → timer ≤ age
+late timer age h = grind (arith, nat_tests)
 
 pub voter_timer : VoterTimer
 voter_timer = record { grows = grows; before = before; late = late }

@@ -1,3 +1,4 @@
+pub mod FrameNumbers
 pub mod WorkSpan
 pub mod TickHistory
 pub mod FairClocks

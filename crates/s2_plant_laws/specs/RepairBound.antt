@@ -3,8 +3,9 @@ use Rattle.std.specs.Prelude.{ℕ, ◌≡◌, ◌<◌, ◌≤◌, ◌+◌, ◌-�
 use Rattle.s2_clock.specs.declared.numbers.TheConstants.{FRAME, LONGEST_FRAME}
 use Rattle.s2_join.specs.declared.join.TheConstants.{SINGLE_PAGE_SYNCS}
 use Rattle.s2_join.specs.CopyOrder.{CopyState}
-use Rattle.s2_voter.specs.declared.voter.TheConstants.{DECISION_TIMER}
-use Rattle.s2_plant_laws.specs.declared.numbers.TheConstants.{LONG_DECISION_TIMER, STATED_REINTEGRATION, LONG_STATED_REINTEGRATION}
+use Rattle.s2_clock.specs.Frames.{IsFrame}
+use Rattle.s2_voter.specs.Timers.{timer_of}
+use Rattle.s2_plant_laws.specs.FrameNumbers.{stated_reintegration_of}
 use Rattle.s2_plant_laws.specs.WorkSpan.{span, frame_work}
 use Rattle.s2_plant_laws.specs.RepairProgress.{RepairProgress, most_words}
 
@@ -43,11 +44,15 @@ pub record NextSyncMoves : Type 0 where
   pub sync : (frame run : ℕ) → 0 < frame → run % frame ≡ 0 → next_sync frame false run ≡ run + frame
   pub first : (frame run : ℕ) (due : Bool) → next_sync frame due run ≤ run + frame
 
--- The stated reintegration: fewer ticks than it have passed since the `revive`, where the next Sync comes within
--- its frames, and the present tick within a frame's span and the timer of the last resume.
+-- the ticks that a repair must cover with a frame: seven for each run cycle and Sync, and one for each word
+abbrev pub repair_ticks : ℕ → ℕ
+repair_ticks frame = 7 * ((SINGLE_PAGE_SYNCS + 1) * frame_work frame) + most_words
+
+-- The stated reintegration of a frame: fewer ticks than it have passed since the `revive`, where the next Sync comes
+-- within its frames, and the present tick within a frame's span and the timer of the last resume.
 pub record StatedReintegration : Type 0 where
-  pub sum : 7 * ((SINGLE_PAGE_SYNCS + 1) * frame_work FRAME) + most_words ≡ 4746135
-  pub in_time : (c : RepairTally) (j : CopyState) (now : ℕ) → c.syncs ≡ j.syncs → RepairProgress c.words j → c.run ≤ c.revived_run + FRAME * (c.syncs + 1) →
-      now < c.tick + span (frame_work FRAME) + DECISION_TIMER → TicksCounted c → now < c.revived + STATED_REINTEGRATION
-  pub longest : (c : RepairTally) (j : CopyState) (now : ℕ) → c.syncs ≡ j.syncs → RepairProgress c.words j → c.run ≤ c.revived_run + LONGEST_FRAME * (c.syncs + 1) →
-      now < c.tick + span (frame_work LONGEST_FRAME) + LONG_DECISION_TIMER → TicksCounted c → now < c.revived + LONG_STATED_REINTEGRATION
+  pub sum : repair_ticks FRAME ≡ 4746135
+  pub long_sum : repair_ticks LONGEST_FRAME ≡ 16465815
+  pub covers : (frame : ℕ) → IsFrame frame → repair_ticks frame + span (frame_work frame) + timer_of frame ≤ stated_reintegration_of frame
+  pub in_time : (frame : ℕ) (c : RepairTally) (j : CopyState) (now : ℕ) → IsFrame frame → c.syncs ≡ j.syncs → RepairProgress c.words j → c.run ≤ c.revived_run + frame * (c.syncs + 1) →
+      now < c.tick + span (frame_work frame) + timer_of frame → TicksCounted c → now < c.revived + stated_reintegration_of frame

@@ -1,7 +1,6 @@
 -- The age and the timer of the laws are the voter's.
 use Rattle.std.specs.Prelude.{ℕ, ◌≡◌, ◌≤◌, Bool, true, false, Some}
 use Rattle.std.specs.declared.option.Option.{Option}
-use Rattle.s2_voter.specs.declared.voter.TheConstants.{DECISION_TIMER}
 use Rattle.s2_voter.specs.VoterCalls.{started_age, older}
 use Rattle.s2_voter.specs.Verdicts.{is_timed_out}
 use Rattle.s2_plant_laws.specs.BoundedSkew.{IsBeforeTimer, age_after}
@@ -9,6 +8,6 @@ use Rattle.s2_plant_laws.specs.BoundedSkew.{IsBeforeTimer, age_after}
 -- In a tick the voter's age grows and then begins with the second latch. At the timer it no longer grows; before
 -- it, it is that of the laws. The voter is timed out exactly where the age has come to the timer.
 pub record VoterTimer : Type 0 where
-  pub grows : (age : Option ℕ) (two : Bool) → IsBeforeTimer DECISION_TIMER age → started_age two (older age) ≡ age_after age two
-  pub before : (age : Option ℕ) → is_timed_out age ≡ false → IsBeforeTimer DECISION_TIMER age
-  pub late : (age : ℕ) → is_timed_out (Some age) ≡ true → DECISION_TIMER ≤ age
+  pub grows : (timer : ℕ) (age : Option ℕ) (two : Bool) → IsBeforeTimer timer age → started_age two (older timer age) ≡ age_after age two
+  pub before : (timer : ℕ) (age : Option ℕ) → is_timed_out timer age ≡ false → IsBeforeTimer timer age
+  pub late : (timer age : ℕ) → is_timed_out timer (Some age) ≡ true → timer ≤ age

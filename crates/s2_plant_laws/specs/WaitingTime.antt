@@ -1,8 +1,8 @@
 -- Waiting times: what bounded skew says of how long a request waits.
 use Rattle.std.specs.Prelude.{ℕ, ◌≡◌, ◌<◌, ◌≤◌, ◌+◌, ◌-◌, Bool, true, false, Some}
-use Rattle.s2_clock.specs.declared.numbers.TheConstants.{FRAME}
-use Rattle.s2_voter.specs.declared.voter.TheConstants.{DECISION_TIMER}
-use Rattle.s2_plant_laws.specs.declared.numbers.TheConstants.{SKEW_BOUND, STATED_WAIT}
+use Rattle.s2_clock.specs.Frames.{IsFrame}
+use Rattle.s2_voter.specs.Timers.{timer_of}
+use Rattle.s2_plant_laws.specs.FrameNumbers.{skew_of, stated_wait_of}
 use Rattle.s2_plant_laws.specs.WorkSpan.{span, frame_work}
 use Rattle.s2_plant_laws.specs.BoundedSkew.{SkewData, clock_at, is_good, since_resume, BoundedSkew, AllAsk, IsTickOf}
 
@@ -34,11 +34,16 @@ pub record WaitBounds (timer j skew : ℕ) (d : SkewData) : Type 0 where
 abbrev pub SkewBoundsWait : Type 0
 SkewBoundsWait = (timer j skew : ℕ) (d : SkewData) → span j ≤ j + skew → BoundedSkew timer j d → WaitBounds timer j skew d
 
--- The stated wait, with frames of up to FRAME run cycles: a request waits for less than it between ticks, and
--- for no longer than it at the verdict.
+-- The stated wait of a frame: a request waits for less than it between ticks, and for no longer than it at the
+-- verdict. Two good processors post the same request at most the skew of the frame apart, and the age is below that
+-- while one of them works.
 pub record StatedWait : Type 0 where
-  pub sum : SKEW_BOUND + DECISION_TIMER ≡ STATED_WAIT
-  pub verdict : (j p : ℕ) (asks : ℕ → Bool) (mask : ℕ) (old new : SkewData) → j ≤ frame_work FRAME → AllAsk asks j old → IsTickOf DECISION_TIMER asks mask old new →
-      BoundedSkew DECISION_TIMER j old → p < 3 → is_good new.tainted p ≡ true → (clock_at new.clocks p).full ≡ true → new.ticks - (clock_at new.clocks p).posted ≤ STATED_WAIT
-  pub between : (j p : ℕ) (d : SkewData) → j ≤ frame_work FRAME → BoundedSkew DECISION_TIMER j d → p < 3 → is_good d.tainted p ≡ true →
-      (clock_at d.clocks p).full ≡ true → d.ticks - (clock_at d.clocks p).posted < STATED_WAIT
+  pub sum : (frame : ℕ) → skew_of frame + timer_of frame ≡ stated_wait_of frame
+  pub verdict : (frame j p : ℕ) (asks : ℕ → Bool) (mask : ℕ) (old new : SkewData) → IsFrame frame → j ≤ frame_work frame → AllAsk asks j old → IsTickOf (timer_of frame) asks mask old new →
+      BoundedSkew (timer_of frame) j old → p < 3 → is_good new.tainted p ≡ true → (clock_at new.clocks p).full ≡ true → new.ticks - (clock_at new.clocks p).posted ≤ stated_wait_of frame
+  pub between : (frame j p : ℕ) (d : SkewData) → IsFrame frame → j ≤ frame_work frame → BoundedSkew (timer_of frame) j d → p < 3 → is_good d.tainted p ≡ true →
+      (clock_at d.clocks p).full ≡ true → d.ticks - (clock_at d.clocks p).posted < stated_wait_of frame
+  pub apart : (frame j p q : ℕ) (d : SkewData) → IsFrame frame → j ≤ frame_work frame → BoundedSkew (timer_of frame) j d → p < 3 → q < 3 → is_good d.tainted p ≡ true → is_good d.tainted q ≡ true →
+      (clock_at d.clocks p).full ≡ true → (clock_at d.clocks q).full ≡ true → (clock_at d.clocks p).posted ≤ (clock_at d.clocks q).posted + skew_of frame
+  pub young : (frame j p age : ℕ) (d : SkewData) → IsFrame frame → j ≤ frame_work frame → BoundedSkew (timer_of frame) j d → p < 3 → is_good d.tainted p ≡ true →
+      (clock_at d.clocks p).full ≡ false → d.age ≡ Some age → age < skew_of frame

@@ -1,7 +1,9 @@
 -- How many ticks so many firings of work may take.
 use Rattle.std.specs.Prelude.{ℕ, ◌≡◌, ◌≤◌, ◌+◌, ◌-◌, ◌*◌, ◌/◌, ◌%◌}
 use Rattle.s2_clock.specs.declared.numbers.TheConstants.{WINDOW, MISSES_ALLOWED, REFRESH_PERIOD, REFRESH_FIRINGS, FRAME, LONGEST_FRAME}
+use Rattle.s2_clock.specs.Frames.{IsFrame}
 use Rattle.s2_plant_laws.specs.declared.numbers.TheConstants.{SKEW_BOUND, LONG_SKEW_BOUND}
+use Rattle.s2_plant_laws.specs.FrameNumbers.{skew_of}
 
 -- into how many windows so many ticks fall, the last one begun
 abbrev pub windows_of : ℕ → ℕ
@@ -30,10 +32,11 @@ SpanIsLeast = (j : ℕ) → 1 ≤ j → (j ≤ sure_work (span j)) × ((t : ℕ)
 abbrev pub frame_work : ℕ → ℕ
 frame_work frame = frame + 1
 
--- the spans of a frame's work, and by how much a span exceeds the work
+-- the spans of a frame's work, and by how much a span exceeds the work; with every frame, by its skew at most
 pub record SpanBounds : Type 0 where
   pub frame : span (frame_work FRAME) ≡ 1107
   pub longest_frame : span (frame_work LONGEST_FRAME) ≡ 4409
   pub skew : (j : ℕ) → 1 ≤ j → j ≤ frame_work FRAME → (j ≤ span j) × (span j ≤ j + SKEW_BOUND)
   pub long_skew : (j : ℕ) → 1 ≤ j → j ≤ frame_work LONGEST_FRAME → (j ≤ span j) × (span j ≤ j + LONG_SKEW_BOUND)
+  pub every_frame : (frame j : ℕ) → IsFrame frame → 1 ≤ j → j ≤ frame_work frame → (j ≤ span j) × (span j ≤ j + skew_of frame)
   pub sevenfold : (j : ℕ) → 1 ≤ j → span j ≤ 7 * j

@@ -17,8 +17,8 @@ mod numbers;
 mod repair;
 
 pub use numbers::{
-    LONG_DECISION_TIMER, LONG_SKEW_BOUND, LONG_STATED_REINTEGRATION, SKEW_BOUND,
-    STATED_REINTEGRATION, STATED_WAIT,
+    LONG_SKEW_BOUND, LONG_STATED_REINTEGRATION, LONG_STATED_WAIT, SKEW_BOUND, STATED_REINTEGRATION,
+    STATED_WAIT,
 };
 pub use repair::{
     copied_pages_after_act, copied_pages_after_run, copied_pages_after_sync,
@@ -31,8 +31,8 @@ pub fn span_is_least()
     ensures { SpanIsLeast }
 {}
 
-/// The spans of a frame's work, 1,107 ticks and 4,409 for the longest frame; and by how much a span
-/// exceeds its work.
+/// The spans of a frame's work, 1,107 ticks for 1,024 run cycles and 4,409 for 4,096; and by how much a span
+/// exceeds its work, with every frame that a machine may be given.
 pub fn span_bounds()
     ensures { SpanBounds }
 {}
@@ -77,7 +77,8 @@ pub fn skew_bounds_wait()
     ensures { SkewBoundsWait }
 {}
 
-/// The stated wait of 210 ticks is the skew and the timer together, and no request waits longer.
+/// The stated wait, 210 ticks with frames of up to 1,024 run cycles and 696 with longer ones, is the skew and the
+/// timer together, and no request waits longer.
 pub fn stated_wait()
     ensures { StatedWait }
 {}

@@ -60,7 +60,8 @@ pub fn next_sync_moves()
     ensures { NextSyncMoves }
 {}
 
-/// A repair takes fewer than 5,000,000 ticks; with the longest frame, fewer than 17,000,000.
+/// A repair takes fewer than 5,000,000 ticks with frames of up to 1,024 run cycles, and fewer than 17,000,000 with
+/// longer ones.
 pub fn stated_reintegration()
     ensures { StatedReintegration }
 {}

@@ -4,5 +4,5 @@
 mod events;
 mod requests;
 
-pub use events::{BoardFault, Event};
+pub use events::{BoardFault, Event, NO_VALUE};
 pub use requests::{Kind, Posted, Reply, Request, same};

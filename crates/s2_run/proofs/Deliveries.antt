@@ -1,22 +1,16 @@
 -- A run under deliveries, cut in two at a run count.
 use Rattle.std.proofs.Common.{◌≡◌, ℕ, zero, suc, ◌+◌, ◌<◌, ◌≤◌, Bool, true, false, cond, List, [], ◌∷◌, ◌++◌, refl, sym, ap, arith, ◌∙◌, subst}
 use Rattle.std.specs.Prelude.{nat_le}
-use Rattle.std.proofs.lemmas.Bool.Decides.{nat_tests}
 use Rattle.s2_machine.specs.R2000.{r2000}
 use Rattle.s2_machine.specs.MachineRun.{RunState, core_cycles, after_cycle, after_delivery, after_due_deliveries, later_deliveries, run_of_cycles}
 use Rattle.s2_machine.specs.declared.deliveries.Delivery.{Delivery}
+use Rattle.s2_single.proofs.DueDeliveries.{is_due, is_later}
 use Rattle.s2_run.proofs.Executions.{run_is_cycles}
 
 -- deliveries that are due at a run count
 abbrev pub AreDue : ℕ → List Delivery → Type 0
 AreDue run [] = Unit {0}
 AreDue run (d ∷ ds) = (d.run ≤ run) × AreDue run ds
-
-is_due : (d : Delivery) (run : ℕ) → d.run ≤ run → nat_le d.run run ≡ true
-is_due d run h = grind (arith, nat_tests)
-
-is_later : (d : Delivery) (run : ℕ) → run < d.run → nat_le d.run run ≡ false
-is_later d run h = grind (arith, nat_tests)
 
 none_later : (run : ℕ) (ds : List Delivery) → AreDue run ds → later_deliveries run ds ≡ []
 none_later run [] due = refl

@@ -5,11 +5,13 @@ use Rattle.std.specs.declared.option.Option.{Option}
 use Rattle.std.specs.declared.result.Result.{Result}
 use Rattle.std.proofs.lemmas.Bool.{ltb-false}
 use Rattle.s2_ports.specs.declared.events.BoardFault.TheVariants.{Dead, Flip}
-use Rattle.s2_text.specs.LineTables.{ReadsLine}
 use Rattle.s2_text.specs.declared.stops.BadLine.{BadLine}
-use Rattle.s2_script.specs.ScriptLines.{script_rows, IsProperEntry}
+use Rattle.s2_script.specs.ScriptLines.{IsProperEntry}
 use Rattle.s2_script.specs.declared.entry.Act.{Act}
-use Rattle.s2_script.specs.declared.entry.Act.TheVariants.{Event, Poke, PokeLocal, Drive, Mute, Remove, Revive, Board}
+use Rattle.s2_ports.specs.Events.{comes_from_outside}
+use Rattle.s2_ports.specs.declared.events.Event.{Event as DeviceEvent}
+use Rattle.s2_ports.specs.declared.events.Event.TheVariants.{Tick, Key, Private}
+use Rattle.s2_script.specs.declared.entry.Act.TheVariants.{Event, Poke, PokeLocal, Drive, Mute, Remove, Revive, Board, Mend}
 use Rattle.s2_script.specs.declared.entry.Entry.{Entry}
 use Rattle.s2_script.specs.declared.entry.Entry.TheVariants.{Ticks, One}
 use Rattle.s2_journal.specs.declared.note.End.{End}
@@ -20,8 +22,9 @@ use Rattle.s2_triplex.specs.TriplexState.{TriplexState}
 use Rattle.s2_triplex.specs.TriplexSteps.{TriplexStep, clock_tick, script_act, step_refusal, stepped, step_turn}
 use Rattle.s2_triplex_laws.specs.TriplexStates.{IsActCall}
 use Rattle.s2_run.specs.declared.limits.TheConstants.{TICK_LIMIT}
-use Rattle.s2_run.specs.InputLines.{InputLine}
-use Rattle.s2_run.specs.ScriptRuns.{Stage, ScriptRun, resting, ended, joined_runs, step_run_by, step_run, with_step, ticks_run, entry_run, read_run, RunsLine, RunsLines}
+use Rattle.s2_text.specs.InputLines.{InputLine}
+use Rattle.s2_run.specs.ScriptRuns.{Stage, ScriptRun, resting, ended, joined_runs, step_run_by, step_run, with_step, ticks_run, entry_run, read_run, ReadsScriptLine, RunsLine, RunsLines}
+use Rattle.s2_run.proofs.FrameChoice.{said_in}
 use Rattle.s2_run.specs.ScriptEndings.{RunTo, RunsInput}
 use Rattle.s2_run.specs.MaskedRuns.{state_after}
 use Rattle.s2_run.proofs.ProperEntries.{said_proper}
@@ -111,15 +114,22 @@ ticks_if : (line mask : ℕ) (d : TriplexState) (n : ℕ) (t : Bool) → nat_lt 
 ticks_if line mask d n true h halt = ended_lawful d (TooLong line)
 ticks_if line mask d n false h halt = (ticks_lawful line mask d n halt (ltb-false TICK_LIMIT (d.ticks + n) h)).lawful
 
+-- an event that a line can say comes from outside
+event_call : (event : DeviceEvent) → IsProperEntry (One (Event event)) → comes_from_outside event ≡ true
+event_call Tick h = refl
+event_call (Key byte) h = refl
+event_call (Private a b c) h = absurd h
+
 -- an act whose numbers are in their ranges is one that the machine can take
 pub act_call : (act : Act) → IsProperEntry (One act) → IsActCall act
-act_call (Event event) h = tt
+act_call (Event event) h = event_call event h
 act_call (Poke p k v) h = tt
 act_call (PokeLocal p i v) h = tt
 act_call (Drive p posted) h = tt
 act_call (Mute p) h = tt
 act_call (Remove p) h = tt
 act_call (Revive p) h = tt
+act_call (Mend board) h = tt
 act_call (Board (Dead board)) h = let b = h.0.1 in omega arith
 act_call (Board (Flip board index bit)) h = let b = h.0.1 in let i = h.1.0.1 in let n = h.1.1.0.1 in (omega arith, omega arith, omega arith)
 
@@ -128,10 +138,10 @@ pub entry_lawful : (line : ℕ) (d : TriplexState) (entry : Entry) → IsProperE
 entry_lawful line d (Ticks mask n) proper halt = ticks_if line mask d n (nat_lt TICK_LIMIT (d.ticks + n)) refl halt
 entry_lawful line d (One act) proper halt = step_lawful line d (script_act act) (step_refusal d (script_act act)) refl halt proper
 
-read_lawful : (line : ℕ) (d : TriplexState) (text : List ℕ) (read : Result (Option Entry) BadLine) → ReadsLine script_rows text read → d.halt ≡ None → IsLawfulRun d (read_run line d read)
+read_lawful : (line : ℕ) (d : TriplexState) (text : List ℕ) (read : Result (Option Entry) BadLine) → ReadsScriptLine line text read → d.halt ≡ None → IsLawfulRun d (read_run line d read)
 read_lawful line d text (Err bad) reads halt = ended_lawful d (Bad line bad.column)
 read_lawful line d text (Ok None) reads halt = resting_lawful d halt
-read_lawful line d text (Ok (Some entry)) reads halt = entry_lawful line d entry (said_proper entry text reads) halt
+read_lawful line d text (Ok (Some entry)) reads halt = entry_lawful line d entry (said_proper entry text (said_in line text entry reads)) halt
 
 line_lawful : (line bytes : ℕ) (d : TriplexState) (text : List ℕ) (run : ScriptRun) → RunsLine line bytes d text run → d.halt ≡ None → IsLawfulRun d run
 line_lawful line bytes d text run (inl (over, is)) halt = subst (IsLawfulRun d) (sym is) (ended_lawful d (TooLong line))

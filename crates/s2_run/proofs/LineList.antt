@@ -1,17 +1,19 @@
 -- The lines of an input, as far as its bytes are read.
-use Rattle.std.proofs.Common.{◌≡◌, ℕ, zero, suc, ◌+◌, ◌≤◌, ◌<◌, Bool, true, false, cond, List, [], ◌∷◌, ◌++◌, take, drop, length, append_assoc, append-nil, length-append, refl, sym, ap, arith, ◌∙◌, subst}
+use Rattle.std.proofs.Common.{◌≡◌, ℕ, zero, suc, ◌+◌, ◌≤◌, ◌<◌, Bool, true, false, cond, List, [], ◌∷◌, ◌++◌, ◌-◌, take, drop, length, append_assoc, append-nil, length-append, refl, sym, ap, arith, ◌∙◌, subst}
 use Rattle.std.specs.Prelude.{Some, None, Ok, ◌==◌, nat_lt, not, ◌&&◌}
 use Rattle.std.specs.declared.option.Option.{Option}
-use Rattle.std.proofs.Math.Seq.{drop-append_seam, take-append_seam}
+use Rattle.std.proofs.Math.Seq.{drop-append_seam, take-add, take-append_seam}
 use Rattle.std.proofs.lemmas.Bool.{ne_eqb, le-ltb, lt-ltb, cases_lt}
-use Rattle.std.proofs.lemmas.List.{take_all, length-take}
+use Rattle.std.proofs.lemmas.List.{drop-drop, take_all, length-take}
 use Rattle.std.specs.Prelude.{◌⊎◌}
 use Rattle.std.proofs.Common.{inl, inr}
 use Rattle.s2_io.specs.declared.traits.Failed.{Failed}
 use Rattle.s2_io.specs.Sources.{dropped}
 use Rattle.s2_text.specs.HeldLine.{held_after}
 use Rattle.s2_run.specs.SentPieces.{next_of, byte_count}
-use Rattle.s2_run.specs.InputLines.{InputLine, IsPlain, empty_line, with_byte, lines_of}
+use Rattle.s2_run.specs.declared.limits.TheConstants.{INPUT_LIMIT}
+use Rattle.s2_text.specs.InputLines.{InputLine, IsPlain, empty_line, with_byte, lines_of, size_of}
+use Rattle.s2_run.specs.FailedReads.{IsFed, IsUnreadBehind}
 use Rattle.s2_run.specs.NextLine.{HasLine, HasLongLine, HasFront}
 
 plain_more : (bs : List ℕ) (b : ℕ) → IsPlain bs → (b ≡ 10 → ⊥) → IsPlain (bs ++ b ∷ [])
@@ -128,6 +130,9 @@ read_byte {input} {held} {held'} {bytes} {left} {left'} next b r is h step other
 rest_after : (input front rest : List ℕ) (n : ℕ) → input ≡ front ++ rest → length front ≡ n → rest ≡ drop n input
 rest_after input front rest n whole count = sym (ap (λ (k : ℕ). drop k input) (sym count) ∙ (ap (drop (length front)) whole ∙ drop-append_seam front rest))
 
+front_of : (input front rest : List ℕ) (n : ℕ) → input ≡ front ++ rest → length front ≡ n → take n input ≡ front
+front_of input front rest n whole count = ap (λ (k : ℕ). take k input) (sym count) ∙ (ap (take (length front)) whole ∙ take-append_seam front rest)
+
 -- a line feed
 pub read_feed : {input held held' : List ℕ} {bytes : ℕ} {left left' : Option (List ℕ)} (next : Option ℕ) (b : ℕ) → (r : ReadPart input bytes held left) → next ≡ Some b → next ≡ next_of r.rest → left' ≡ dropped left (byte_count {E = Failed} (Ok next)) → b ≡ 10 → held' ≡ held_after held b → HasLine input (bytes + 1) held' left'
 read_feed {input} {held} {held'} {bytes} {left} {left'} next b r is h step feed held_is =
@@ -142,6 +147,26 @@ read_feed {input} {held} {held'} {bytes} {left} {left'} next b r is h step feed 
       left_is = t.left_is;
       rest_is = rest_after input (r.front ++ 10 ∷ []) t.bytes (bytes + 1) all (omega (arith, length-append r.front (10 ∷ []), r.count));
     }
+
+-- it is the last byte of the line
+pub read_fed : {input held : List ℕ} {bytes : ℕ} {left left' : Option (List ℕ)} (next : Option ℕ) (b : ℕ) → (r : ReadPart input bytes held left) →
+    next ≡ Some b → next ≡ next_of r.rest → left' ≡ dropped left (byte_count {E = Failed} (Ok next)) → b ≡ 10 →
+    (front : List ℕ) × (take (bytes + 1) input ≡ front ++ 10 ∷ [])
+read_fed {input} {held} {bytes} {left} {left'} next b r is h step feed =
+    let t = took r.rest left left' next b r.left_is is h step in
+    let whole : input ≡ r.front ++ 10 ∷ t.bytes = r.input_is ∙ (ap (λ (x : List ℕ). r.front ++ x) t.rest_is ∙ ap (λ (y : ℕ). r.front ++ y ∷ t.bytes) feed) in
+    let all : input ≡ (r.front ++ 10 ∷ []) ++ t.bytes = whole ∙ sym (append_assoc r.front (10 ∷ []) t.bytes) in
+    (r.front, front_of input (r.front ++ 10 ∷ []) t.bytes (bytes + 1) all (omega (arith, length-append r.front (10 ∷ []), r.count)))
+
+-- so what was taken with it ends with a line feed
+pub fed_more : (input rest : List ℕ) (bytes size : ℕ) → rest ≡ drop bytes input → (front : List ℕ) × (take size rest ≡ front ++ 10 ∷ []) →
+    IsFed (take (bytes + size) input)
+fed_more input rest bytes size is (front, ends) = inr (
+  take bytes input ++ front,
+  take-add bytes size input
+      ∙ (ap (λ (r : List ℕ). take bytes input ++ take size r) (sym is)
+      ∙ (ap (λ (x : List ℕ). take bytes input ++ x) ends ∙ sym (append_assoc (take bytes input) front (10 ∷ [])))),
+)
 
 at_end : (rest : List ℕ) → None ≡ next_of rest → rest ≡ []
 at_end [] h = refl
@@ -201,9 +226,6 @@ read_long {input} {held} {bytes} {room} {left} {left'} next b r is h step full =
       left_is = t.left_is ∙ ap Some (rest_after input (r.front ++ b ∷ []) t.bytes (room + 1) all (omega (arith, length-append r.front (b ∷ []), r.count)));
     }
 
-front_of : (input front rest : List ℕ) (n : ℕ) → input ≡ front ++ rest → length front ≡ n → take n input ≡ front
-front_of input front rest n whole count = ap (λ (k : ℕ). take k input) (sym count) ∙ (ap (take (length front)) whole ∙ take-append_seam front rest)
-
 -- a read that fails leaves the rest
 pub read_failed : {input held : List ℕ} {bytes room : ℕ} {left left' : Option (List ℕ)} → ReadPart input bytes held left → bytes ≤ room → left' ≡ dropped left 0 → HasFront input room left'
 read_failed {input} {held} {bytes} {room} {left} {left'} r most step = record {
@@ -212,3 +234,37 @@ read_failed {input} {held} {bytes} {room} {left} {left'} r most step = record {
   within = most;
   left_is = step ∙ (ap (λ (o : Option (List ℕ)). dropped o 0) r.left_is ∙ ap Some (rest_after input r.front r.rest bytes r.input_is r.count));
 }
+
+-- and so does one behind lines
+pub unread_behind : (input rest : List ℕ) (before : List InputLine) (bytes : ℕ) {left' : Option (List ℕ)} → rest ≡ drop bytes input →
+    bytes ≡ size_of before → IsFed (take bytes input) → HasFront rest (INPUT_LIMIT - bytes) left' → bytes ≤ INPUT_LIMIT →
+    IsUnreadBehind input before left'
+unread_behind input rest before bytes rest_is bytes_are fed f most =
+    let at : rest ≡ drop (size_of before) input = rest_is ∙ ap (λ (n : ℕ). drop n input) bytes_are in
+    record {
+      fed = subst (λ (n : ℕ). IsFed (take n input)) bytes_are fed;
+      part = f.bytes;
+      plain = subst (λ (r : List ℕ). IsPlain (take f.bytes r)) at f.plain;
+      within = omega (arith, f.within, bytes_are);
+      left_is = f.left_is ∙ ap Some (ap (drop f.bytes) at ∙ drop-drop f.bytes (size_of before) input);
+    }
+
+-- the first line of an input has at most one byte more than its text
+abbrev FirstFits : List InputLine → Type 0
+FirstFits [] = Unit {0}
+FirstFits (line ∷ more) = line.size ≤ length line.text + 1
+
+with_fits : (b : ℕ) (lines : List InputLine) → FirstFits lines → FirstFits (with_byte b lines)
+with_fits b [] h = omega arith
+with_fits b (line ∷ lines) h = omega arith
+
+first_fits_by : (b : ℕ) (bs : List ℕ) (t : Bool) → FirstFits (lines_of bs) → FirstFits (cond t (empty_line ∷ lines_of bs) (with_byte b (lines_of bs)))
+first_fits_by b bs true h = omega arith
+first_fits_by b bs false h = with_fits b (lines_of bs) h
+
+first_fits : (bs : List ℕ) → FirstFits (lines_of bs)
+first_fits [] = tt
+first_fits (b ∷ bs) = first_fits_by b bs (b == 10) (first_fits bs)
+
+pub line_fits : (bs : List ℕ) (line : InputLine) (more : List InputLine) → lines_of bs ≡ line ∷ more → line.size ≤ length line.text + 1
+line_fits bs line more is = subst FirstFits is (first_fits bs)

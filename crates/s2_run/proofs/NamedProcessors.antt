@@ -10,14 +10,15 @@ use Rattle.s2_ports.specs.declared.events.BoardFault.TheVariants.{Dead, Flip}
 use Rattle.s2_ports.specs.declared.requests.Request.{Request}
 use Rattle.s2_voter.specs.declared.verdicts.Verdict.{Verdict}
 use Rattle.s2_voter.specs.declared.verdicts.Verdict.TheVariants.{Waiting, Done, Split}
+use Rattle.s2_revive.specs.MendingBoards.{mended_by, mending_begins}
 use Rattle.s2_join.specs.declared.item.Item.{Item}
 use Rattle.s2_join.specs.CopyOrder.{is_last_item}
 use Rattle.s2_script.specs.declared.entry.Act.{Act}
-use Rattle.s2_script.specs.declared.entry.Act.TheVariants.{Event as EventAct, Poke, PokeLocal, Drive, Mute, Remove, Revive, Board}
+use Rattle.s2_script.specs.declared.entry.Act.TheVariants.{Event as EventAct, Poke, PokeLocal, Drive, Mute, Remove, Revive, Board, Mend}
 use Rattle.s2_journal.specs.declared.note.Why.{Why}
 use Rattle.s2_journal.specs.declared.note.Why.TheVariants.{Differ, Late}
 use Rattle.s2_journal.specs.declared.note.Note.{Note}
-use Rattle.s2_journal.specs.declared.note.Note.TheVariants.{Delivered, Out, Lost, Repaired, BoardDead, Join, Joined}
+use Rattle.s2_journal.specs.declared.note.Note.TheVariants.{Delivered, Out, Lost, Repaired, BoardDead, Mend as MendNote, Mended, Join, Joined}
 use Rattle.s2_machine.specs.declared.deliveries.Delivery.{Delivery}
 use Rattle.s2_triplex.specs.declared.membership.Membership.{Membership}
 use Rattle.s2_triplex.specs.declared.membership.Membership.TheVariants.{Out as OutMember}
@@ -27,11 +28,11 @@ use Rattle.s2_triplex.specs.TriplexCores.{TriplexCore}
 use Rattle.s2_triplex.specs.TriplexState.{TriplexState, Reintegration, three_of, membership_at, is_out}
 use Rattle.s2_triplex.specs.TickFirings.{after_firings}
 use Rattle.s2_triplex.specs.VotedAccess.{RepairedWord}
-use Rattle.s2_triplex.specs.VoterDecision.{StepEffects, StepResult, no_effects, is_named, membership_unless_left, after_verdict, tick_verdict, is_sync_verdict, voted}
+use Rattle.s2_triplex.specs.VoterDecision.{StepEffects, StepResult, no_effects, is_named, membership_unless_left, after_verdict, tick_verdict, is_idle_verdict, is_sync_verdict, voted}
 use Rattle.s2_triplex.specs.CopyHolds.{hold_begun, hold_begun_if, is_holding, after_hold_tick}
 use Rattle.s2_triplex.specs.TickStep.{after_working_tick, ticked}
 use Rattle.s2_triplex.specs.ActStep.{acted, is_revivable}
-use Rattle.s2_triplex.specs.StepTurns.{Turn, out_notes, repair_notes, delivery_notes, effect_notes, joined_notes_if, copy_notes, hold_notes, working_turn, hold_turn, tick_turn, board_notes, act_notes}
+use Rattle.s2_triplex.specs.StepTurns.{Turn, out_notes, repair_notes, delivery_notes, effect_notes, mended_notes, turn_notes, joined_notes_if, copy_notes, hold_notes, working_turn, hold_turn, tick_turn, board_notes, act_notes}
 use Rattle.s2_triplex.specs.TriplexSteps.{TriplexStep, clock_tick, script_act, stepped, step_turn}
 use Rattle.s2_triplex_laws.specs.LawfulSteps.{TickDecisions}
 use Rattle.s2_triplex_laws.proofs.VoterTurn.{named_in}
@@ -47,6 +48,8 @@ OutsAre P (Delivered run event ∷ notes) = OutsAre P notes
 OutsAre P (Lost tick event ∷ notes) = OutsAre P notes
 OutsAre P (Repaired tick board index ∷ notes) = OutsAre P notes
 OutsAre P (BoardDead tick board ∷ notes) = OutsAre P notes
+OutsAre P (MendNote tick board ∷ notes) = OutsAre P notes
+OutsAre P (Mended tick board ∷ notes) = OutsAre P notes
 OutsAre P (Join tick p ∷ notes) = OutsAre P notes
 OutsAre P (Joined tick p good ∷ notes) = OutsAre P notes
 
@@ -56,6 +59,8 @@ outs_tail P (Delivered run event) notes h = h
 outs_tail P (Lost tick event) notes h = h
 outs_tail P (Repaired tick board index) notes h = h
 outs_tail P (BoardDead tick board) notes h = h
+outs_tail P (MendNote tick board) notes h = h
+outs_tail P (Mended tick board) notes h = h
 outs_tail P (Join tick p) notes h = h
 outs_tail P (Joined tick p good) notes h = h
 
@@ -66,6 +71,8 @@ outs_both P (Delivered run event ∷ a) b x y = outs_both P a b x y
 outs_both P (Lost tick event ∷ a) b x y = outs_both P a b x y
 outs_both P (Repaired tick board index ∷ a) b x y = outs_both P a b x y
 outs_both P (BoardDead tick board ∷ a) b x y = outs_both P a b x y
+outs_both P (MendNote tick board ∷ a) b x y = outs_both P a b x y
+outs_both P (Mended tick board ∷ a) b x y = outs_both P a b x y
 outs_both P (Join tick p ∷ a) b x y = outs_both P a b x y
 outs_both P (Joined tick p good ∷ a) b x y = outs_both P a b x y
 
@@ -99,6 +106,15 @@ effect_outs P tick e differ late =
     outs_both P (out_notes tick Differ e.differ) (out_notes tick Late e.late ++ (repair_notes tick e.repaired ++ delivery_notes e.deliveries)) (outs_of P tick Differ e.differ differ)
     (outs_both P (out_notes tick Late e.late) (repair_notes tick e.repaired ++ delivery_notes e.deliveries) (outs_of P tick Late e.late late)
     (outs_both P (repair_notes tick e.repaired) (delivery_notes e.deliveries) (repair_outs P tick e.repaired) (delivery_outs P e.deliveries)))
+
+-- an idle turn has none
+mended_outs : (P : ℕ → Type 0) (tick : ℕ) (mended : Option ℕ) → OutsAre P (mended_notes tick mended)
+mended_outs P tick None = tt
+mended_outs P tick (Some board) = tt
+
+turn_outs : (P : ℕ → Type 0) (idle : Bool) (tick : ℕ) (mended : Option ℕ) (e : StepEffects) → ((p : ℕ) → e.differ ≡ Some p → P p) → ((p : ℕ) → e.late ≡ Some p → P p) → OutsAre P (turn_notes idle tick mended e)
+turn_outs P true tick mended e differ late = mended_outs P tick mended
+turn_outs P false tick mended e differ late = effect_outs P tick e differ late
 
 -- a hold has none
 joined_outs : (P : ℕ → Type 0) (b : Bool) (tick : ℕ) (j : Reintegration) → OutsAre P (joined_notes_if b tick j)
@@ -173,7 +189,7 @@ working_outs : (k : TriplexCore) (d : TriplexState) (mask : ℕ) → TickDecisio
 working_outs k d mask h =
     let n = verdict_names k d mask (tick_verdict k d mask) h refl in
     let same = (begun_if_same (is_sync_verdict (tick_verdict k d mask)) (voted k d mask).next).tainted in
-    effect_outs (IsTaintedIn (after_working_tick k d mask).next) (d.ticks + 1) (voted k d mask).effects (λ p e. same ∙ n.differ p e) (λ p e. same ∙ n.late p e)
+    turn_outs (IsTaintedIn (after_working_tick k d mask).next) (is_idle_verdict (tick_verdict k d mask)) (d.ticks + 1) (mended_by d.boards.mending) (voted k d mask).effects (λ p e. same ∙ n.differ p e) (λ p e. same ∙ n.late p e)
 
 tick_outs : (k : TriplexCore) (d : TriplexState) (mask : ℕ) (b : Bool) → TickDecisions k d mask →
     OutsAre (IsTaintedIn (cond b (record { next = after_hold_tick d mask; effects = no_effects }) (after_working_tick k d mask)).next) (cond b (hold_turn d) (working_turn k d mask)).notes
@@ -201,6 +217,7 @@ act_outs d (Mute p) = tt
 act_outs d (Remove p) = lost_outs _ (is_out (membership_at d.memberships p)) _ (refl, tt)
 act_outs d (Revive p) = join_outs _ (is_revivable p d) _ tt
 act_outs d (Board fault) = board_outs _ d.ticks fault
+act_outs d (Mend board) = join_outs _ (mending_begins board d.boards) _ tt
 
 step_outs : (k : TriplexCore) (d : TriplexState) (step : TriplexStep) → ((mask : ℕ) → step ≡ clock_tick mask → TickDecisions k d mask) → OutsAre (IsTaintedIn (stepped k d step)) (step_turn k d step).notes
 step_outs k d (clock_tick mask) h = tick_outs k d mask (is_holding d.reintegration) (h mask refl)
@@ -258,6 +275,8 @@ names_who_differs d stage mask r differ late state turn step working h is =
     let next : stage.state ≡ (after_working_tick k d mask).next = state ∙ (ap (stepped k d) step ∙ ap (λ (x : StepResult). x.next) works.0) in
     let told : stage.turn ≡ working_turn k d mask = turn ∙ (ap (step_turn k d) step ∙ works.1) in
     let effects : (voted k d mask).effects ≡ (after_verdict k (after_firings k d mask) (Done r differ late)).effects = ap (λ (v : Verdict). (after_verdict k (after_firings k d mask) v).effects) is in
+    let line : (x : Note) → Contains (effect_notes (d.ticks + 1) (voted k d mask).effects) x → Contains (working_turn k d mask).notes x =
+    λ x there. subst (λ (v : Verdict). Contains (turn_notes (is_idle_verdict v) (d.ticks + 1) (mended_by d.boards.mending) (voted k d mask).effects) x) (sym is) there in
     let out : (p : ℕ) → p < 3 → is_named differ late p ≡ true → membership_at stage.state.memberships p ≡ OutMember =
     λ p hp named. ap (λ (e : TriplexState). membership_at e.memberships p) next ∙ named_out k d mask r differ late p hp is named in
     record {
@@ -265,12 +284,12 @@ names_who_differs d stage mask r differ late state turn step working h is =
           let named = f.differs p hp differs in
           record {
             out = out p hp (differ_named differ late p named);
-            line = subst (λ (t : Turn). Contains t.notes (Out (d.ticks + 1) p Differ)) (sym told) (differ_line (d.ticks + 1) (voted k d mask).effects p (ap (λ (e : StepEffects). e.differ) effects ∙ named));
+            line = subst (λ (t : Turn). Contains t.notes (Out (d.ticks + 1) p Differ)) (sym told) (line (Out (d.ticks + 1) p Differ) (differ_line (d.ticks + 1) (voted k d mask).effects p (ap (λ (e : StepEffects). e.differ) effects ∙ named)));
           };
       late = λ p hp unlatched.
           let named = f.lates p hp unlatched in
           record {
             out = out p hp (late_named differ late p named);
-            line = subst (λ (t : Turn). Contains t.notes (Out (d.ticks + 1) p Late)) (sym told) (late_line (d.ticks + 1) (voted k d mask).effects p (ap (λ (e : StepEffects). e.late) effects ∙ named));
+            line = subst (λ (t : Turn). Contains t.notes (Out (d.ticks + 1) p Late)) (sym told) (line (Out (d.ticks + 1) p Late) (late_line (d.ticks + 1) (voted k d mask).effects p (ap (λ (e : StepEffects). e.late) effects ∙ named)));
           };
     }

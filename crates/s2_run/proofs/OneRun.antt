@@ -1,49 +1,22 @@
 -- An input has one run.
-use Rattle.std.proofs.Common.{◌≡◌, ℕ, ◌+◌, ◌-◌, List, [], ◌∷◌, ◌++◌, drop, length, append_assoc, append-nil, refl, sym, ap, arith, ◌∙◌, subst, inl, inr, ◌⊎◌}
-use Rattle.std.specs.Prelude.{Some, None, Ok, Err, is_some, true}
+use Rattle.std.proofs.Common.{◌≡◌, ℕ, ◌+◌, List, [], ◌∷◌, ◌++◌, drop, length, append_assoc, append-nil, refl, sym, ap, arith, ◌∙◌, subst, inl, inr, ◌⊎◌}
+use Rattle.std.specs.Prelude.{Some, None, is_some, true}
 use Rattle.std.specs.declared.option.Option.{Option}
 use Rattle.std.specs.declared.result.Result.{Result}
-use Rattle.std.proofs.lemmas.Bool.{cases_lt}
 use Rattle.s2_text.specs.declared.stops.BadLine.{BadLine}
-use Rattle.s2_text.specs.LineGrammar.{Reaches}
-use Rattle.s2_text.specs.LineTables.{ReadsLine}
-use Rattle.s2_text.proofs.ShortLines.{line_again, remark_again}
-use Rattle.s2_script.specs.ScriptLines.{script_rows}
 use Rattle.s2_script.specs.declared.entry.Entry.{Entry}
-use Rattle.s2_script.proofs.ScriptTests.{script_disjoint, script_no_remarks}
 use Rattle.s2_journal.specs.declared.note.End.{End}
 use Rattle.s2_triplex.specs.TriplexState.{TriplexState}
-use Rattle.s2_run.specs.InputLines.{InputLine, lines_of, size_of}
+use Rattle.s2_text.specs.InputLines.{InputLine, lines_of, size_of}
 use Rattle.s2_run.specs.ScriptRuns.{Stage, ScriptRun, resting, joined_runs, read_run, RunsText, RunsLine, RunsLines}
 use Rattle.s2_run.specs.ScriptEndings.{RunsInput, bytes_taken}
 use Rattle.s2_run.specs.ScriptLaws.{InputsHaveOneRun}
-
--- ---- what the grammar reads of a line is one answer
-
--- a line leaves a set in one place
-one_reach : (S : List ℕ → Type 0) (line : List ℕ) (m n : ℕ) → Reaches S line m → Reaches S line n → m ≡ n
-one_reach S line m n x y =
-    elim (cases_lt m n) [
-      | inl less ↦ absurd (x.past n less y.within y.before)
-      | inr no_less ↦ elim (cases_lt n m) [ inl more ↦ absurd (y.past m more x.within x.before) | inr same ↦ omega arith ]
-    ]
-
-one_reading : (text : List ℕ) (a b : Result (Option Entry) BadLine) → ReadsLine script_rows text a → ReadsLine script_rows text b → a ≡ b
-one_reading text (Ok (Some x)) b reads other = sym (line_again script_rows text b script_disjoint script_no_remarks other x reads)
-one_reading text (Ok None) b reads other = sym (remark_again script_rows text b script_no_remarks other reads)
-one_reading text (Err bad) (Ok (Some x)) reads other = line_again script_rows text (Err bad) script_disjoint script_no_remarks reads x other
-one_reading text (Err bad) (Ok None) reads other = remark_again script_rows text (Err bad) script_no_remarks reads other
-one_reading text (Err bad) (Err worse) reads other =
-    let low = reads.0 in
-    let other_low = other.0 in
-    let back = one_reach _ text (bad.column - 1) (worse.column - 1) reads.1 other.1 in
-    let same : bad.column ≡ worse.column = omega arith in
-    ap (λ (n : ℕ). Err (record { column = n })) same
+use Rattle.s2_run.proofs.FrameChoice.{one_reading}
 
 -- ---- lines have one run
 
 one_text : (line : ℕ) (d : TriplexState) (text : List ℕ) (run other : ScriptRun) → RunsText line d text run → RunsText line d text other → run ≡ other
-one_text line d text run other x y = x.run_is ∙ (ap (λ (r : Result (Option Entry) BadLine). read_run line d r) (one_reading text x.read y.read x.grammar y.grammar) ∙ sym y.run_is)
+one_text line d text run other x y = x.run_is ∙ (ap (λ (r : Result (Option Entry) BadLine). read_run line d r) (one_reading line text x.read y.read x.grammar y.grammar) ∙ sym y.run_is)
 
 one_line : (line bytes : ℕ) (d : TriplexState) (text : List ℕ) (run other : ScriptRun) → RunsLine line bytes d text run → RunsLine line bytes d text other → run ≡ other
 one_line line bytes d text run other (inl x) (inl y) = x.1 ∙ sym y.1
@@ -60,7 +33,7 @@ RunUntil line bytes d [] run taken = (run ≡ resting d) × (taken ≡ None)
 RunUntil line bytes d (next ∷ lines) run taken =
     (first : ScriptRun) × RunsLine (line + 1) (bytes + next.size) d next.text first × Stops (bytes + next.size) first (RunUntil (line + 1) (bytes + next.size) first.state lines) run taken
 
-not_both : (o : Option End) → is_some o ≡ true → o ≡ None → ⊥
+pub not_both : (o : Option End) → is_some o ≡ true → o ≡ None → ⊥
 not_both (Some e) h k = cc
 not_both None h k = cc
 

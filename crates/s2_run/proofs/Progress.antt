@@ -11,7 +11,7 @@ use Rattle.s2_single.specs.SingleMachine.{in_run}
 use Rattle.s2_io.specs.Sinks.{appended}
 use Rattle.s2_run.specs.Execution.{run_within}
 use Rattle.s2_run.proofs.Pieces.{appended_twice, appended_none}
-use Rattle.s2_run.proofs.ProgramCycles.{halted_cycles, cycles_from}
+use Rattle.s2_single.proofs.ProgramCycles.{halted_cycles, cycles_from}
 
 -- cycles that go on: where they have come to, and what the console has taken
 pub record Running (start : Machine) (limit i written : ℕ) (machine : Machine) (before now : Option (List ℕ)) : Type 0 where

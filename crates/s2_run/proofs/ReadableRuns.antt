@@ -7,11 +7,11 @@ use Rattle.std.proofs.lemmas.List.{length-take}
 use Rattle.s2_base.specs.declared.map.TheConstants.{LOCAL_WORDS, GLOBAL_WORDS}
 use Rattle.s2_elf.specs.MemoryImage.{MemoryImage}
 use Rattle.s2_ports.specs.declared.events.BoardFault.TheVariants.{Dead, Flip}
+use Rattle.s2_clock.specs.Frames.{IsFrame}
 use Rattle.s2_text.specs.declared.stops.BadLine.{BadLine}
-use Rattle.s2_text.specs.LineTables.{ReadsLine}
-use Rattle.s2_script.specs.ScriptLines.{script_rows, IsProperEntry}
+use Rattle.s2_script.specs.ScriptLines.{IsProperEntry}
 use Rattle.s2_script.specs.declared.entry.Act.{Act}
-use Rattle.s2_script.specs.declared.entry.Act.TheVariants.{Event, Poke, PokeLocal, Drive, Mute, Remove, Revive, Board}
+use Rattle.s2_script.specs.declared.entry.Act.TheVariants.{Event, Poke, PokeLocal, Drive, Mute, Remove, Revive, Board, Mend}
 use Rattle.s2_script.specs.declared.entry.Entry.{Entry}
 use Rattle.s2_script.specs.declared.entry.Entry.TheVariants.{Ticks, One}
 use Rattle.s2_journal.specs.declared.note.Reason.{Reason}
@@ -40,9 +40,10 @@ use Rattle.s2_triplex_laws.proofs.R2000Boards.{r2000_triplex_core}
 use Rattle.s2_triplex_laws.proofs.SlowestProcessor.{slowest_is}
 use Rattle.s2_triplex_laws.proofs.LocalCycles.{run_after_cycles}
 use Rattle.s2_run.specs.declared.limits.TheConstants.{TICK_LIMIT}
-use Rattle.s2_run.specs.InputLines.{InputLine, empty_line, with_byte, lines_of, size_of}
+use Rattle.s2_text.specs.InputLines.{InputLine, empty_line, with_byte, lines_of, size_of}
 use Rattle.s2_run.specs.Transcript.{console_of}
-use Rattle.s2_run.specs.ScriptRuns.{Stage, ScriptRun, ended, halt_end, joined_runs, step_run_by, step_run, ticks_run, read_run, RunsLine, end_of}
+use Rattle.s2_run.specs.ScriptRuns.{Stage, ScriptRun, ended, halt_end, joined_runs, step_run_by, step_run, ticks_run, read_run, ReadsScriptLine, RunsLine, end_of}
+use Rattle.s2_run.proofs.FrameChoice.{bad_within, said_in}
 use Rattle.s2_run.specs.RunTranscript.{turn_transcript, stages_transcript, console_count}
 use Rattle.s2_run.specs.ScriptEndings.{RunsInput}
 use Rattle.s2_run.specs.MaskedRuns.{first_triplex, printed_deliveries, state_after, IsMasked}
@@ -79,7 +80,7 @@ ticks_room d h = h.invariant.masking.replicas.room
 
 step_reads : (d : TriplexState) (step : TriplexStep) → IsGoodState d → d.halt ≡ None → IsReady d step → step_refusal d step ≡ None → StageReads d (stage_of d step)
 step_reads d (clock_tick mask) h halt room lawful =
-    let r = tick_readable d mask room h.state.repair h.readable in
+    let r = tick_readable d mask room h.state.repair h.state.invariant.masking.agreement.boards h.state.bounds h.readable in
     let counted = tick_counts r2000_triplex d mask in
     let few = one_byte (step_turn r2000_triplex d (clock_tick mask)).out in
     record {
@@ -236,6 +237,7 @@ act_reason d (Drive p posted) h proper reason is = let low = proper.0.1 in secon
 act_reason d (Mute p) h proper reason is = let low = proper.0.1 in second_readable d.tainted p h.tainted (omega arith) reason is
 act_reason d (Remove p) h proper reason is = let low = proper.0.1 in second_readable d.tainted p h.tainted (omega arith) reason is
 act_reason d (Revive p) h proper reason is = absurd cc
+act_reason d (Mend board) h proper reason is = absurd cc
 act_reason d (Board (Dead board)) h proper reason is = let low = proper.0.1 in board_by board _ (omega arith) reason is
 act_reason d (Board (Flip board index bit)) h proper reason is = let low = proper.0.1 in board_by board _ (omega arith) reason is
 
@@ -244,10 +246,10 @@ entry_end : (line : ℕ) (d : TriplexState) (entry : Entry) → line < 2 ^ 64 �
 entry_end line d (Ticks mask n) small h proper = limit_end line mask d n (nat_lt TICK_LIMIT (d.ticks + n)) small
 entry_end line d (One act) small h proper = step_end line d (script_act act) (act_refusal d act) small (act_reason d act h proper)
 
-read_end : (line : ℕ) (d : TriplexState) (text : List ℕ) (read : Result (Option Entry) BadLine) → line < 2 ^ 64 → length text < 2 ^ 63 → IsReadableState d → ReadsLine script_rows text read → ReadsEnd (read_run line d read).end
-read_end line d text (Err bad) small few h reads = let within = reads.1.within in bad_line line bad.column small (omega arith)
+read_end : (line : ℕ) (d : TriplexState) (text : List ℕ) (read : Result (Option Entry) BadLine) → line < 2 ^ 64 → length text < 2 ^ 63 → IsReadableState d → ReadsScriptLine line text read → ReadsEnd (read_run line d read).end
+read_end line d text (Err bad) small few h reads = let within = bad_within line text bad reads in bad_line line bad.column small (omega arith)
 read_end line d text (Ok None) small few h reads = no_end
-read_end line d text (Ok (Some entry)) small few h reads = entry_end line d entry small h (said_proper entry text reads)
+read_end line d text (Ok (Some entry)) small few h reads = entry_end line d entry small h (said_proper entry text (said_in line text entry reads))
 
 line_end : (line bytes : ℕ) (d : TriplexState) (text : List ℕ) (run : ScriptRun) → line < 2 ^ 64 → length text ≤ bytes → IsReadableState d → RunsLine line bytes d text run → ReadsEnd run.end
 line_end line bytes d text run small few h (inl (over, is)) = subst (λ (r : ScriptRun). ReadsEnd r.end) (sym is) (too_long line small)
@@ -281,9 +283,9 @@ behind (line ∷ a) b h = behind a b h.2
 
 -- ---- a whole run
 
-first_good : (image : MemoryImage) → length image.local ≡ LOCAL_WORDS → length image.global ≡ GLOBAL_WORDS → IsGoodState (first_triplex image)
-first_good image local global = record {
-  state = start_is_state r2000_triplex image.entry image.local image.global r2000_triplex_core local global;
+first_good : (frame : ℕ) (image : MemoryImage) → IsFrame frame → length image.local ≡ LOCAL_WORDS → length image.global ≡ GLOBAL_WORDS → IsGoodState (first_triplex frame image)
+first_good frame image f local global = record {
+  state = start_is_state r2000_triplex frame image.entry image.local image.global r2000_triplex_core f local global;
   readable = record { inbox = tt; tainted = λ p is. absurd cc };
 }
 
@@ -300,10 +302,10 @@ input_end d input run left halt h (inr x) =
     let state : IsReadableState x.first.state = subst IsReadableState (sym lawful.state_is) read.next.readable in
     subst (λ (r : ScriptRun). ReadsEnd r.end) (sym x.run_is) (line_end (length x.place.before + 1) (size_of x.place.before + x.line.size) x.first.state x.line.text x.last (omega arith) (omega arith) state x.ran)
 
-readable_run : (image : MemoryImage) (input : List ℕ) (run : ScriptRun) (left : Option (List ℕ)) → length image.local ≡ LOCAL_WORDS → length image.global ≡ GLOBAL_WORDS → RunsInput (first_triplex image) input run left → DueUpTo (runs run.state) (printed_deliveries run.stages) → IsReadableRun run
-readable_run image input run left local global ran due =
-    let d = first_triplex image in
-    let good = first_good image local global in
+readable_run : (frame : ℕ) (image : MemoryImage) (input : List ℕ) (run : ScriptRun) (left : Option (List ℕ)) → IsFrame frame → length image.local ≡ LOCAL_WORDS → length image.global ≡ GLOBAL_WORDS → RunsInput (first_triplex frame image) input run left → DueUpTo (runs run.state) (printed_deliveries run.stages) → IsReadableRun run
+readable_run frame image input run left f local global ran due =
+    let d = first_triplex frame image in
+    let good = first_good frame image f local global in
     let lawful = input_lawful d input run left refl ran in
     let read = stages_read run.stages d good lawful.stages in
     let state : IsTriplexState r2000_triplex run.state = subst (IsTriplexState r2000_triplex) (sym lawful.state_is) read.next.state in
@@ -321,8 +323,8 @@ readable_run image input run left local global ran due =
     }
 
 pub replays_give_the_same : ReplaysGiveTheSame
-replays_give_the_same image input run left local global ran short =
-    let masked = (every_script_is_masked image local global).whole input run left ran in
-    let whole : IsMasked image run.stages (state_after (first_triplex image) run.stages) = masked.masked run.stages [] (sym (append-nil run.stages)) in
-    let here : IsMasked image run.stages run.state = subst (λ (d : TriplexState). IsMasked image run.stages d) (sym masked.state_is) whole in
-    masked_replay image run here (readable_run image input run left local global ran here.due) short
+replays_give_the_same frame image input run left f local global ran short =
+    let masked = (every_script_is_masked image local global).whole frame f input run left ran in
+    let whole : IsMasked frame image run.stages (state_after (first_triplex frame image) run.stages) = masked.masked run.stages [] (sym (append-nil run.stages)) in
+    let here : IsMasked frame image run.stages run.state = subst (λ (d : TriplexState). IsMasked frame image run.stages d) (sym masked.state_is) whole in
+    masked_replay frame image run here (readable_run frame image input run left f local global ran here.due) short

@@ -15,7 +15,7 @@ use Rattle.s2_journal.specs.ReportOrder.{closing_count, greatest_run, order_stat
 use Rattle.s2_journal.proofs.WholeReports.{in_order}
 use Rattle.s2_run.specs.Replay.{deliveries_of, run_of, last_run, replayed}
 use Rattle.s2_run.specs.ReplayParts.{reached, after_line}
-use Rattle.s2_run.proofs.ProgramCycles.{behind, halted_cycles, cycles_from, delivery_behind, cycles_count}
+use Rattle.s2_single.proofs.ProgramCycles.{behind, halted_cycles, cycles_from, delivery_behind, cycles_count}
 use Rattle.s2_run.proofs.Deliveries.{AreDue, cycles_more, delivery_more}
 
 -- ---- lists of lines

@@ -21,16 +21,18 @@ use Rattle.s2_run.specs.declared.limits.TheConstants.{INPUT_LIMIT}
 use Rattle.s2_run.specs.declared.output.Cut.{Cut}
 use Rattle.s2_run.specs.declared.verdict.Verdict.{Verdict}
 use Rattle.s2_run.specs.declared.verdict.Verdict.TheVariants.{Passed, Bad, TooLong}
-use Rattle.s2_run.specs.InputLines.{InputLine, IsPlain, lines_of, size_of}
+use Rattle.s2_text.specs.InputLines.{InputLine, lines_of, size_of, texts_of}
+use Rattle.s2_run.specs.FailedReads.{IsFed}
 use Rattle.s2_run.specs.NextLine.{HasLine, HasLongLine, HasFront}
-use Rattle.s2_run.specs.ReportReading.{texts_of, InOrder, ReadsReport}
+use Rattle.s2_run.specs.ReportReading.{InOrder, ReadsReport}
 use Rattle.s2_run.specs.Execution.{run_within}
 use Rattle.s2_run.specs.Replay.{run_of, replayed, IsReplayUnread, IsReplayCut}
 use Rattle.s2_run.specs.ReplayParts.{reached, after_line, IsRunThrough}
 use Rattle.s2_run.specs.SeenObjects.{Streams, streams}
+use Rattle.s2_run.proofs.LineList.{unread_behind}
 use Rattle.s2_run.proofs.Pieces.{appended_twice, appended_none, appended_front}
 use Rattle.s2_run.proofs.Checking.{size_append}
-use Rattle.s2_run.proofs.ProgramCycles.{behind, halted_cycles, cycles_count}
+use Rattle.s2_single.proofs.ProgramCycles.{behind, halted_cycles, cycles_count}
 use Rattle.s2_run.proofs.ReplayedLines.{HasCome, from_start, line_more, has_come, has_come_none}
 
 -- ---- the parts of a line
@@ -267,23 +269,17 @@ replay_ended {start} {machine} {input} {taken} {lines} {bytes} {order} {left} {l
 
 -- a read that fails
 pub replay_failed : {start machine : Machine} {input : List ℕ} {taken lines bytes : ℕ} {order : OrderState} {left left' before now : Option (List ℕ)} (left0 report : Option (List ℕ))
-    → (r : Replaying start input taken lines bytes order machine left before now) → HasFront r.rest (INPUT_LIMIT - taken) left' → taken ≤ INPUT_LIMIT
+    → (r : Replaying start input taken lines bytes order machine left before now) → HasFront r.rest (INPUT_LIMIT - taken) left' → taken ≤ INPUT_LIMIT → IsFed (take taken input)
     → IsReplayUnread start input (streams left0 before report) (streams left' now report)
-replay_failed {start} {machine} {input} {taken} {lines} {bytes} {order} {left} {left'} {before} {now} left0 report r f most =
-    let place = line_place r (lines_of r.rest) refl most in
-    let rest : r.rest ≡ drop (size_of r.read) input = r.rest_is ∙ ap (λ (n : ℕ). drop n input) r.taken_is in
-    record {
-      said = r.said;
-      unread = record {
-        place = place;
-        part = f.bytes;
-        plain = subst (λ (x : List ℕ). IsPlain (take f.bytes x)) rest f.plain;
-        within = omega (arith, f.within, r.taken_is);
-        left_is = f.left_is ∙ ap Some (ap (drop f.bytes) rest ∙ drop-drop f.bytes (size_of r.read) input);
-      };
-      console_took = r.took;
-      report_same = refl;
-    }
+replay_failed {start} {machine} {input} {taken} {lines} {bytes} {order} {left} {left'} {before} {now} left0 report r f most fed = record {
+  said = r.said;
+  unread = record {
+    place = line_place r (lines_of r.rest) refl most;
+    unread = unread_behind input r.rest r.read taken r.rest_is r.taken_is fed f most;
+  };
+  console_took = r.took;
+  report_same = refl;
+}
 
 -- a write to the console that fails
 pub replay_cut : {start machine : Machine} {input held : List ℕ} {taken lines bytes size : ℕ} {order : OrderState} {left left' before now : Option (List ℕ)} (left0 report : Option (List ℕ)) (x : ReportLine) (cut : ℕ) (now' : Option (List ℕ))

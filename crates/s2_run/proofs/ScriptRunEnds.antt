@@ -10,7 +10,7 @@ use Rattle.s2_run.specs.ReportText.{end_lines}
 use Rattle.s2_run.specs.Transcript.{Outlet, Report, for_outlet}
 use Rattle.s2_run.specs.ScriptRuns.{ScriptRun, end_of}
 use Rattle.s2_run.specs.RunTranscript.{Taken, taken, with_transcript, stages_transcript, console_count, closing_lines}
-use Rattle.s2_run.specs.ScriptEndings.{IsRun, IsClosingCutOff, RunEnds}
+use Rattle.s2_run.specs.ScriptEndings.{IsRun, IsClosingCutOff, ScriptEnds}
 use Rattle.s2_run.specs.ScriptRunParts.{HasRun, HasEnded, LinesEnd}
 use Rattle.s2_run.specs.declared.output.StreamFault.{StreamFault}
 use Rattle.s2_run.specs.declared.output.StreamFault.TheVariants.{Read, Write}
@@ -18,9 +18,9 @@ use Rattle.s2_run.proofs.Pieces.{appended_none}
 use Rattle.s2_run.proofs.StageTranscripts.{took_both, transcript_twice}
 
 -- lines that came to no end
-pub lines_end : (d : TriplexState) (input : List ℕ) (fault : StreamFault) (state : TriplexState) (before now : Taken) (left : Option (List ℕ)) → LinesEnd d input (Err fault) state before now left → RunEnds d input (Err fault) state before now left
-lines_end d input Read state before now left h = h
-lines_end d input Write state before now left h = inl h
+pub lines_end : (start : ℕ → TriplexState) (input : List ℕ) (fault : StreamFault) (state : TriplexState) (before now : Taken) (left : Option (List ℕ)) → LinesEnd start input (Err fault) state before now left → ScriptEnds start input (Err fault) state before now left
+lines_end start input Read state before now left h = h
+lines_end start input Write state before now left h = (h.0, h.1, inl h.2)
 
 -- the closing lines that the code writes
 pub closing_is : (run : ScriptRun) (end : End) (count : ℕ) (state : TriplexState) (before now : Taken) (run_count tick_count : ℕ) → end ≡ end_of run.end → HasRun run run.end state 0 count before now → run_count ≡ runs state → tick_count ≡ state.ticks →

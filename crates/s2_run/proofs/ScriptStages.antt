@@ -14,9 +14,10 @@ use Rattle.s2_run.specs.Transcript.{Outlet, Console, Report, for_outlet, console
 use Rattle.s2_run.specs.ScriptRuns.{Stage, ScriptRun, joined_runs, halt_end, step_run_by, step_run, with_step, ticks_run}
 use Rattle.s2_run.specs.RunTranscript.{Taken, with_transcript, note_lines, turn_transcript, stages_transcript, console_count}
 use Rattle.s2_run.specs.ScriptEndings.{CutAtStage}
-use Rattle.s2_run.specs.ScriptRunParts.{HasRun, SinkStays}
+use Rattle.s2_run.specs.ScriptRunParts.{HasRun}
 use Rattle.s2_script.specs.declared.entry.Act.{Act}
 use Rattle.s2_run.specs.SeenObjects.{SinkSeen}
+use Rattle.s2_run.specs.FaultCounts.{SinkSame}
 use Rattle.s2_run.proofs.StepCounts.{tick_counts, tick_accepts, act_takes_no_time, act_accepts}
 use Rattle.s2_run.proofs.StageTranscripts.{console_append, console_of-report, console_of-console, transcript_twice, transcript_none, stages_append, count_append}
 
@@ -205,6 +206,6 @@ act_went {end} {p'} line p act x =
     let same : p'.accepted ≡ (step_run line p (script_act act)).state.accepted = ap (λ (q : TriplexState). q.accepted) x.state_is in
     (ap (λ (q : TriplexState). q.ticks) x.state_is ∙ b.0, omega (arith, b.1))
 
--- counts that have not fallen, twice
-pub stays_twice : {a b c : SinkSeen} → SinkStays a b → SinkStays b c → SinkStays a c
-stays_twice {a} {b} {c} x y = record { faults = omega (arith, x.faults, y.faults); empty_takes = omega (arith, x.empty_takes, y.empty_takes) }
+-- counts that did not rise, twice
+pub same_twice : {a b c : SinkSeen} → SinkSame a b → SinkSame b c → SinkSame a c
+same_twice {a} {b} {c} x y = record { faults = y.faults ∙ x.faults; empty_takes = y.empty_takes ∙ x.empty_takes }

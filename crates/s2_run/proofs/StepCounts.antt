@@ -8,7 +8,7 @@ use Rattle.s2_join.specs.declared.item.Item.{Item}
 use Rattle.s2_join.specs.declared.item.Item.TheVariants.{Local, Saved}
 use Rattle.s2_join.specs.CopyOrder.{is_last_item}
 use Rattle.s2_script.specs.declared.entry.Act.{Act}
-use Rattle.s2_script.specs.declared.entry.Act.TheVariants.{Event as EventAct, Poke, PokeLocal, Drive, Mute, Remove, Revive, Board}
+use Rattle.s2_script.specs.declared.entry.Act.TheVariants.{Event as EventAct, Poke, PokeLocal, Drive, Mute, Remove, Revive, Board, Mend}
 use Rattle.s2_triplex.specs.declared.numbers.TheConstants.{INBOX_EVENTS}
 use Rattle.s2_triplex.specs.TriplexCores.{TriplexCore}
 use Rattle.s2_triplex.specs.TriplexState.{TriplexState, Reintegration}
@@ -85,6 +85,7 @@ act_few (Mute p) d = (refl, omega arith)
 act_few (Remove p) d = (refl, omega arith)
 act_few (Revive p) d = event_by d (revived p d) (is_revivable p d) (refl, omega arith)
 act_few (Board fault) d = (refl, omega arith)
+act_few (Mend board) d = (refl, omega arith)
 
 pub act_takes_no_time : (act : Act) (d : TriplexState) → (acted act d).ticks ≡ d.ticks
 act_takes_no_time act d = (act_few act d).0

@@ -4,12 +4,12 @@ use Rattle.std.specs.Prelude.{◌%◌, ◌^◌, codes, ◌==◌, ◌≢◌, not,
 use Rattle.std.specs.declared.option.Option.{Option}
 use Rattle.std.proofs.lemmas.Bool.Decides.{nat_tests}
 use Rattle.s2_elf.specs.MemoryImage.{MemoryImage}
-use Rattle.s2_ports.specs.declared.events.Event.TheVariants.{Tick, Key}
+use Rattle.s2_ports.specs.declared.events.Event.TheVariants.{Tick, Key, Private}
 use Rattle.s2_machine.specs.declared.deliveries.Delivery.{Delivery as DeliveryAt}
 use Rattle.s2_machine.specs.MachineRun.{RunState, machine_run}
 use Rattle.s2_journal.specs.declared.note.Why.TheVariants.{Differ, Late, Removed}
 use Rattle.s2_journal.specs.declared.note.Note.{Note}
-use Rattle.s2_journal.specs.declared.note.Note.TheVariants.{Delivered, Out, Lost, Repaired, BoardDead, Join, Joined}
+use Rattle.s2_journal.specs.declared.note.Note.TheVariants.{Delivered, Out, Lost, Repaired, BoardDead, Mend, Mended, Join, Joined}
 use Rattle.s2_journal.specs.declared.note.Reason.TheVariants.{Second, Slow, BothBoards}
 use Rattle.s2_journal.specs.declared.note.End.{End}
 use Rattle.s2_journal.specs.declared.note.End.TheVariants.{Script, Halt, Bad, Outside, TooLong, Report}
@@ -32,11 +32,12 @@ use Rattle.s2_triplex_laws.specs.TriplexExecutions.{AreInRunOrder}
 use Rattle.s2_triplex_laws.specs.StepNotes.{deliveries_in}
 use Rattle.s2_run.specs.declared.limits.TheConstants.{INPUT_LIMIT}
 use Rattle.s2_run.specs.Execution.{started_image}
-use Rattle.s2_run.specs.InputLines.{InputLine, lines_of, size_of}
+use Rattle.s2_text.specs.LineGrammar.{nums}
+use Rattle.s2_text.specs.InputLines.{InputLine, lines_of, size_of, texts_of}
 use Rattle.s2_run.specs.ReportText.{line_with, end_lines}
 use Rattle.s2_run.specs.declared.verdict.Verdict.{Verdict}
 use Rattle.s2_run.specs.declared.verdict.Verdict.TheVariants.{Passed, Bad as BadVerdict, TooLong as LongVerdict}
-use Rattle.s2_run.specs.ReportReading.{texts_of, first_size, ReadsReport}
+use Rattle.s2_run.specs.ReportReading.{first_size, ReadsReport}
 use Rattle.s2_run.proofs.Checking.{size_append}
 use Rattle.s2_journal.proofs.ReportAnswers.{report_not_bad}
 use Rattle.s2_run.specs.Replay.{deliveries_of, last_run, replayed, replay_closing}
@@ -46,7 +47,8 @@ use Rattle.s2_run.specs.RunTranscript.{note_lines, turn_transcript, stages_trans
 use Rattle.s2_run.specs.MaskedRuns.{printed_deliveries, IsMasked}
 use Rattle.s2_run.specs.ReplayLaws.{printed_notes, notes_said, report_text, report_said, IsReplayedAlike}
 use Rattle.s2_run.proofs.StageTranscripts.{report_append, report_of-console, report_of-report}
-use Rattle.s2_run.proofs.WrittenLines.{is_plain_form, spelling_plain, written_lines, ArePlain, plain_lists, written_append, texts_again, lines_size}
+use Rattle.s2_text.proofs.PlainTexts.{is_plain_form, spelling_plain}
+use Rattle.s2_run.proofs.WrittenLines.{written_lines, ArePlain, plain_lists, written_append, texts_again, lines_size}
 
 -- ---- numbers in the ranges of a reader
 
@@ -97,13 +99,17 @@ pub record IsReadableRun (run : ScriptRun) : Type 0 where
 plain_note : (n : Note) → is_plain_form (note_form n) ≡ true
 plain_note (Delivered run Tick) = refl
 plain_note (Delivered run (Key b)) = refl
+plain_note (Delivered run (Private a b c)) = refl
 plain_note (Out tick p Differ) = refl
 plain_note (Out tick p Late) = refl
 plain_note (Out tick p Removed) = refl
 plain_note (Lost tick Tick) = refl
 plain_note (Lost tick (Key b)) = refl
+plain_note (Lost tick (Private a b c)) = refl
 plain_note (Repaired tick b index) = refl
 plain_note (BoardDead tick b) = refl
+plain_note (Mend tick b) = refl
+plain_note (Mended tick b) = refl
 plain_note (Join tick p) = refl
 plain_note (Joined tick p true) = refl
 plain_note (Joined tick p false) = refl
@@ -132,16 +138,16 @@ closing_texts n t b e = count_text RunsCount n ∷ count_text TicksCount t ∷ c
 
 notes_plain : (ns : List Note) → AreReadableNotes ns → ArePlain (note_texts ns)
 notes_plain [] h = tt
-notes_plain (n ∷ ns) h = (spelling_plain (note_form n) (note_numbers n) (plain_note n) h.0, notes_plain ns h.1)
+notes_plain (n ∷ ns) h = (spelling_plain (note_form n) (nums (note_numbers n)) (plain_note n) h.0, notes_plain ns h.1)
 
 closing_plain : (n t b : ℕ) (e : End) → IsReadableCount RunsCount n → IsReadableCount TicksCount t → IsReadableCount BytesCount b → IsReadableEnd e → ArePlain (closing_texts n t b e)
 closing_plain n t b e hn ht hb he = (
-  spelling_plain (count_form RunsCount) (n ∷ []) (plain_count RunsCount) hn,
+  spelling_plain (count_form RunsCount) (nums (n ∷ [])) (plain_count RunsCount) hn,
   (
-    spelling_plain (count_form TicksCount) (t ∷ []) (plain_count TicksCount) ht,
+    spelling_plain (count_form TicksCount) (nums (t ∷ [])) (plain_count TicksCount) ht,
     (
-      spelling_plain (count_form BytesCount) (b ∷ []) (plain_count BytesCount) hb,
-      (spelling_plain (end_form e) (end_numbers e) (plain_end e) he, tt),
+      spelling_plain (count_form BytesCount) (nums (b ∷ [])) (plain_count BytesCount) hb,
+      (spelling_plain (end_form e) (nums (end_numbers e)) (plain_end e) he, tt),
     ),
   ),
 )
@@ -216,11 +222,15 @@ no_fault before line x place other onward enough = fault_by (closing_count befor
 other_note : (n : Note) → bytes_eq (note_text n) end_report ≡ false
 other_note (Delivered run Tick) = refl
 other_note (Delivered run (Key b)) = refl
+other_note (Delivered run (Private a b c)) = refl
 other_note (Out tick p why) = refl
 other_note (Lost tick Tick) = refl
 other_note (Lost tick (Key b)) = refl
+other_note (Lost tick (Private a b c)) = refl
 other_note (Repaired tick b index) = refl
 other_note (BoardDead tick b) = refl
+other_note (Mend tick b) = refl
+other_note (Mended tick b) = refl
 other_note (Join tick p) = refl
 other_note (Joined tick p good) = refl
 
@@ -280,6 +290,8 @@ note_in_order (Out tick p why) ns g order due = quiet_in_order (Out tick p why) 
 note_in_order (Lost tick event) ns g order due = quiet_in_order (Lost tick event) ns g refl order due
 note_in_order (Repaired tick b index) ns g order due = quiet_in_order (Repaired tick b index) ns g refl order due
 note_in_order (BoardDead tick b) ns g order due = quiet_in_order (BoardDead tick b) ns g refl order due
+note_in_order (Mend tick b) ns g order due = quiet_in_order (Mend tick b) ns g refl order due
+note_in_order (Mended tick b) ns g order due = quiet_in_order (Mended tick b) ns g refl order due
 note_in_order (Join tick p) ns g order due = quiet_in_order (Join tick p) ns g refl order due
 note_in_order (Joined tick p good) ns g order due = quiet_in_order (Joined tick p good) ns g refl order due
 
@@ -325,6 +337,8 @@ said_none (Out tick p why ∷ ns) = (let h = said_none ns in omega arith)
 said_none (Lost tick event ∷ ns) = (let h = said_none ns in omega arith)
 said_none (Repaired tick b index ∷ ns) = (let h = said_none ns in omega arith)
 said_none (BoardDead tick b ∷ ns) = (let h = said_none ns in omega arith)
+said_none (Mend tick b ∷ ns) = (let h = said_none ns in omega arith)
+said_none (Mended tick b ∷ ns) = (let h = said_none ns in omega arith)
 said_none (Join tick p ∷ ns) = (let h = said_none ns in omega arith)
 said_none (Joined tick p good ∷ ns) = (let h = said_none ns in omega arith)
 
@@ -335,6 +349,8 @@ said_greatest (Out tick p why ∷ ns) n due = (let h = said_greatest ns n due in
 said_greatest (Lost tick event ∷ ns) n due = (let h = said_greatest ns n due in grind arith)
 said_greatest (Repaired tick b index ∷ ns) n due = (let h = said_greatest ns n due in grind arith)
 said_greatest (BoardDead tick b ∷ ns) n due = (let h = said_greatest ns n due in grind arith)
+said_greatest (Mend tick b ∷ ns) n due = (let h = said_greatest ns n due in grind arith)
+said_greatest (Mended tick b ∷ ns) n due = (let h = said_greatest ns n due in grind arith)
 said_greatest (Join tick p ∷ ns) n due = (let h = said_greatest ns n due in grind arith)
 said_greatest (Joined tick p good ∷ ns) n due = (let h = said_greatest ns n due in grind arith)
 
@@ -348,6 +364,8 @@ said_whole (Out tick p why ∷ ns) n = (let h = said_whole ns n in omega arith)
 said_whole (Lost tick event ∷ ns) n = (let h = said_whole ns n in omega arith)
 said_whole (Repaired tick b index ∷ ns) n = (let h = said_whole ns n in omega arith)
 said_whole (BoardDead tick b ∷ ns) n = (let h = said_whole ns n in omega arith)
+said_whole (Mend tick b ∷ ns) n = (let h = said_whole ns n in omega arith)
+said_whole (Mended tick b ∷ ns) n = (let h = said_whole ns n in omega arith)
 said_whole (Join tick p ∷ ns) n = (let h = said_whole ns n in omega arith)
 said_whole (Joined tick p good ∷ ns) n = (let h = said_whole ns n in omega arith)
 
@@ -358,6 +376,8 @@ said_deliveries (Out tick p why ∷ ns) n = said_deliveries ns n
 said_deliveries (Lost tick event ∷ ns) n = said_deliveries ns n
 said_deliveries (Repaired tick b index ∷ ns) n = said_deliveries ns n
 said_deliveries (BoardDead tick b ∷ ns) n = said_deliveries ns n
+said_deliveries (Mend tick b ∷ ns) n = said_deliveries ns n
+said_deliveries (Mended tick b ∷ ns) n = said_deliveries ns n
 said_deliveries (Join tick p ∷ ns) n = said_deliveries ns n
 said_deliveries (Joined tick p good ∷ ns) n = said_deliveries ns n
 
@@ -368,6 +388,8 @@ said_last (Out tick p why ∷ ns) n due = (let h = said_last ns n due in grind a
 said_last (Lost tick event ∷ ns) n due = (let h = said_last ns n due in grind arith)
 said_last (Repaired tick b index ∷ ns) n due = (let h = said_last ns n due in grind arith)
 said_last (BoardDead tick b ∷ ns) n due = (let h = said_last ns n due in grind arith)
+said_last (Mend tick b ∷ ns) n due = (let h = said_last ns n due in grind arith)
+said_last (Mended tick b ∷ ns) n due = (let h = said_last ns n due in grind arith)
 said_last (Join tick p ∷ ns) n due = (let h = said_last ns n due in grind arith)
 said_last (Joined tick p good ∷ ns) n due = (let h = said_last ns n due in grind arith)
 
@@ -378,6 +400,8 @@ in_append (Out tick p why ∷ a) b = in_append a b
 in_append (Lost tick event ∷ a) b = in_append a b
 in_append (Repaired tick board index ∷ a) b = in_append a b
 in_append (BoardDead tick board ∷ a) b = in_append a b
+in_append (Mend tick board ∷ a) b = in_append a b
+in_append (Mended tick board ∷ a) b = in_append a b
 in_append (Join tick p ∷ a) b = in_append a b
 in_append (Joined tick p good ∷ a) b = in_append a b
 
@@ -445,8 +469,8 @@ run_follows run h order due =
     notes_follow ns [] (closing_texts (runs run.state) run.state.ticks (console_count run.stages) (as_written (end_of run.end))) (closing_said (runs run.state)) refl h.notes order_here (from_zero (deliveries_in ns))
     (closing_follow (notes_said ns) (runs run.state) run.state.ticks (console_count run.stages) (as_written (end_of run.end)) (said_none ns) (said_greatest ns (runs run.state) due_here) h.run_count h.tick_count h.byte_count h.end h.own)
 
-pub masked_replay : (image : MemoryImage) (run : ScriptRun) → IsMasked image run.stages run.state → IsReadableRun run → length (report_text run) ≤ INPUT_LIMIT → IsReplayedAlike image run
-masked_replay image run m h short =
+pub masked_replay : (frame : ℕ) (image : MemoryImage) (run : ScriptRun) → IsMasked frame image run.stages run.state → IsReadableRun run → length (report_text run) ≤ INPUT_LIMIT → IsReplayedAlike image run
+masked_replay frame image run m h short =
     let ns = printed_notes run.stages in
     let is = printed run.stages in
     let due_here : DueUpTo (runs run.state) (deliveries_in ns) = subst (DueUpTo (runs run.state)) (sym is) m.due in

@@ -23,6 +23,7 @@ pub use Rattle.s2_text.specs.DecimalText
 pub use Rattle.s2_text.specs.HexText
 pub use Rattle.s2_text.specs.LineGrammar
 pub use Rattle.s2_text.specs.LineTables
+pub use Rattle.s2_text.specs.InputLines
 pub use Rattle.s2_script.specs.ScriptLines
 pub use Rattle.s2_journal.specs.ReportLines
 pub use Rattle.s2_journal.specs.ReportOrder
@@ -41,7 +42,8 @@ pub mod Transcript
 pub mod RefusalText
 pub mod ReportText
 pub mod SeenObjects
-pub mod InputLines
+pub mod FaultCounts
+pub mod FailedReads
 pub mod NextLine
 pub mod ReportReading
 pub mod Execution
@@ -50,12 +52,14 @@ pub mod RunTranscript
 pub mod ScriptEndings
 pub mod ScriptRunParts
 pub mod MaskedRuns
+pub mod MendedScripts
 pub mod ScriptLaws
 pub mod EntryRuns
 pub mod Replay
 pub mod ReplayParts
 pub mod ReplayLaws
 pub mod LoadedFiles
+pub mod Headline
 pub mod RunCommand
 pub mod ScriptCheck
 pub mod CheckCommand

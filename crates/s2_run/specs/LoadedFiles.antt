@@ -8,7 +8,8 @@ use Rattle.s2_elf.specs.MemoryImage.{MemoryImage}
 use Rattle.s2_elf.specs.declared.fault.ElfFault.{ElfFault}
 use Rattle.s2_io.specs.Sinks.{appended}
 use Rattle.s2_run.specs.ReportText.{too_big_line, elf_line}
-use Rattle.s2_run.specs.SeenObjects.{Streams, IsCut}
+use Rattle.s2_run.specs.SeenObjects.{DeskSeen, Seen, Streams, streams_of, IsCut}
+use Rattle.s2_run.specs.FaultCounts.{DeskSame, NoCallFailed}
 use Rattle.s2_run.specs.declared.limits.TheConstants.{FILE_LIMIT}
 use Rattle.s2_run.specs.declared.loading.LoadFail.{LoadFail}
 use Rattle.s2_run.specs.declared.loading.LoadFail.TheVariants.{File as NoFile, TooBig as LargeFile, Refused as BadFile, Memory as NoMemory}
@@ -38,6 +39,13 @@ pub record CutLine (line : List ℕ) (old new : Streams) : Type 0 where
 abbrev pub IsFileLine : List ℕ → List ℕ → Type 0
 IsFileLine file line = ((fault : ElfFault) × IsRefused file fault × (line ≡ elf_line fault)) ⊎ ((FILE_LIMIT < length file) × (line ≡ too_big_line))
 
+-- whatever the desk tells: the line of a file that gives no program was cut, and where it was too big, its count rose
+pub record CutRefusal (old new : Seen) : Type 0 where
+  pub line : List ℕ
+  pub says : ((fault : ElfFault) × (line ≡ elf_line fault) × (new.desk.large ≡ old.desk.large))
+      ⊎ ((line ≡ too_big_line) × Rose old.desk.large new.desk.large)
+  pub cut : CutLine line (streams_of old) (streams_of new)
+
 -- for the parts of the commands: what the loader answers for a file that the desk tells
 abbrev pub LoadsFile : List ℕ → Result MemoryImage LoadFail → Type 0
 LoadsFile file (Ok image) = IsAccepted file × (image ≡ image_of file)
@@ -53,3 +61,11 @@ LoadCause (Err LargeFile) faults faults' large large' = Rose large large'
 LoadCause (Err (BadFile fault)) faults faults' large large' = Unit {0}
 LoadCause (Err NoMemory) faults faults' large large' = Unit {0}
 LoadCause (Ok image) faults faults' large large' = Unit {0}
+
+-- and which counts of the desk stay: only a call that failed raises one, and there is no second call
+abbrev pub LoadCounts : {T : Type 0} → Result T LoadFail → DeskSeen → DeskSeen → Type 0
+LoadCounts (Err NoFile) desk desk' = desk'.large ≡ desk.large
+LoadCounts (Err LargeFile) desk desk' = NoCallFailed desk desk'
+LoadCounts (Err (BadFile fault)) desk desk' = DeskSame desk desk'
+LoadCounts (Err NoMemory) desk desk' = DeskSame desk desk'
+LoadCounts (Ok image) desk desk' = DeskSame desk desk'

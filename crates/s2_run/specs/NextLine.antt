@@ -1,10 +1,10 @@
 -- For the parts of the commands: what the reading of the next line answers.
-use Rattle.std.specs.Prelude.{ℕ, ◌≡◌, ◌+◌, ◌<◌, ◌≤◌, List, [], ◌∷◌, take, drop, Some, Ok, Err}
+use Rattle.std.specs.Prelude.{ℕ, ◌≡◌, ◌+◌, ◌<◌, ◌≤◌, List, [], ◌∷◌, ◌++◌, take, drop, Some, Ok, Err}
 use Rattle.std.specs.declared.option.Option.{Option}
 use Rattle.std.specs.declared.result.Result.{Result}
 use Rattle.s2_io.specs.declared.traits.Failed.{Failed}
-use Rattle.s2_text.specs.declared.lines.TheConstants.{HELD_BYTES}
-use Rattle.s2_run.specs.InputLines.{InputLine, IsPlain, lines_of}
+use Rattle.s2_text.specs.declared.lines.TheConstants.{HELD_BYTES, LINE_FEED}
+use Rattle.s2_text.specs.InputLines.{InputLine, IsPlain, lines_of}
 use Rattle.s2_run.specs.declared.lines.LineRead.{LineRead}
 use Rattle.s2_run.specs.declared.lines.LineRead.TheVariants.{Line, End, TooLong}
 
@@ -44,3 +44,9 @@ abbrev pub FitsRoom : ℕ → LineRead → Type 0
 FitsRoom room (Line size) = (1 ≤ size) × (size ≤ room)
 FitsRoom room End = Unit {0}
 FitsRoom room TooLong = Unit {0}
+
+-- the bytes of a line end with its line feed
+abbrev pub EndsFed : List ℕ → LineRead → Type 0
+EndsFed input (Line size) = (front : List ℕ) × (take size input ≡ front ++ LINE_FEED ∷ [])
+EndsFed input End = Unit {0}
+EndsFed input TooLong = Unit {0}

@@ -12,7 +12,7 @@ use Rattle.s2_journal.specs.declared.note.End.{End}
 use Rattle.s2_journal.specs.declared.note.End.TheVariants.{Halt, Bad as BadEnd, TooLong as LongEnd, Report}
 use Rattle.s2_run.specs.ReportText.{replay_lines}
 use Rattle.s2_run.specs.ReportReading.{InOrder, ReadsReport, IsUnread}
-use Rattle.s2_run.specs.InputLines.{size_of}
+use Rattle.s2_text.specs.InputLines.{size_of}
 use Rattle.s2_run.specs.SeenObjects.{Streams, IsCut}
 use Rattle.s2_run.specs.declared.verdict.Verdict.{Verdict}
 use Rattle.s2_run.specs.declared.verdict.Verdict.TheVariants.{Passed, Bad, TooLong}

@@ -3,6 +3,7 @@
 use Rattle.std.specs.Prelude.{ℕ, ◌≡◌, ◌≤◌, List, [], ◌∷◌, ◌++◌, length, Some}
 use Rattle.std.specs.declared.option.Option.{Option}
 use Rattle.s2_base.specs.declared.map.TheConstants.{LOCAL_WORDS, GLOBAL_WORDS}
+use Rattle.s2_clock.specs.Frames.{IsFrame}
 use Rattle.s2_elf.specs.MemoryImage.{MemoryImage}
 use Rattle.s2_journal.specs.declared.note.Note.{Note}
 use Rattle.s2_journal.specs.declared.note.ReportLine.{ReportLine}
@@ -53,5 +54,5 @@ pub record IsReplayedAlike (image : MemoryImage) (run : ScriptRun) : Type 0 wher
 
 -- so it is of every run on a program whose report is no longer than an input may be
 abbrev pub ReplaysGiveTheSame : Type 0
-ReplaysGiveTheSame = (image : MemoryImage) (input : List ℕ) (run : ScriptRun) (left : Option (List ℕ)) → length image.local ≡ LOCAL_WORDS → length image.global ≡ GLOBAL_WORDS → RunsInput (first_triplex image) input run left →
+ReplaysGiveTheSame = (frame : ℕ) (image : MemoryImage) (input : List ℕ) (run : ScriptRun) (left : Option (List ℕ)) → IsFrame frame → length image.local ≡ LOCAL_WORDS → length image.global ≡ GLOBAL_WORDS → RunsInput (first_triplex frame image) input run left →
     length (report_text run) ≤ INPUT_LIMIT → IsReplayedAlike image run

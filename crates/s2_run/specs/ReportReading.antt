@@ -1,17 +1,13 @@
 -- The reading of a report: what its lines say as far as they are in order, where they go wrong, and what is taken of the input.
-use Rattle.std.specs.Prelude.{ℕ, ◌≡◌, ◌+◌, ◌<◌, ◌≤◌, List, [], ◌∷◌, ◌++◌, length, take, drop, Some}
+use Rattle.std.specs.Prelude.{ℕ, ◌≡◌, ◌+◌, ◌<◌, ◌≤◌, List, [], ◌∷◌, ◌++◌, length, drop, Some}
 use Rattle.std.specs.declared.option.Option.{Option}
 use Rattle.s2_journal.specs.declared.note.ReportLine.{ReportLine}
 use Rattle.s2_journal.specs.ReportOrder.{Follow, GoesWrong, IsReport}
 use Rattle.s2_run.specs.declared.limits.TheConstants.{INPUT_LIMIT}
-use Rattle.s2_run.specs.InputLines.{InputLine, IsPlain, lines_of, size_of}
+use Rattle.s2_text.specs.InputLines.{InputLine, lines_of, size_of, texts_of}
+use Rattle.s2_run.specs.FailedReads.{IsUnreadBehind}
 use Rattle.s2_run.specs.declared.verdict.Verdict.{Verdict}
 use Rattle.s2_run.specs.declared.verdict.Verdict.TheVariants.{Passed, Bad, TooLong}
-
--- the bytes of lines
-abbrev pub texts_of : List InputLine → List (List ℕ)
-texts_of [] = []
-texts_of (line ∷ lines) = line.text ∷ texts_of lines
 
 -- how many bytes the first of some lines has: none where there is no line
 abbrev pub first_size : List InputLine → ℕ
@@ -37,11 +33,7 @@ ReadsReport input Passed said left = IsReport (texts_of (lines_of input)) said �
 ReadsReport input (Bad number column) said left = (place : InOrder input said) × (number ≡ length place.before + 1) × GoesWrong said (texts_of place.after) column × (bytes_through place ≤ INPUT_LIMIT) × (left ≡ Some (drop (bytes_through place) input))
 ReadsReport input (TooLong number) said left = (place : InOrder input said) × (number ≡ length place.before + 1) × (INPUT_LIMIT < bytes_through place) × (left ≡ Some (drop (INPUT_LIMIT + 1) input))
 
--- a read failed: the lines before it are in order and say this, and of the next line no more was taken than bytes before its
--- line feed
+-- a read failed: the lines that were complete in the bytes taken are in order and say this
 pub record IsUnread (input : List ℕ) (said : List ReportLine) (left : Option (List ℕ)) : Type 0 where
   pub place : InOrder input said
-  pub part : ℕ
-  pub plain : IsPlain (take part (drop (size_of place.before) input))
-  pub within : size_of place.before + part ≤ INPUT_LIMIT
-  pub left_is : left ≡ Some (drop (size_of place.before + part) input)
+  pub unread : IsUnreadBehind input place.before left

@@ -9,13 +9,16 @@ use Rattle.s2_journal.specs.declared.note.End.{End}
 use Rattle.s2_journal.specs.declared.note.End.TheVariants.{Script, Halt, Bad, Outside as OutsideEnd, TooLong as LongEnd, Report}
 use Rattle.s2_triplex.specs.TriplexState.{TriplexState}
 use Rattle.s2_run.specs.declared.limits.TheConstants.{FILE_LIMIT}
-use Rattle.s2_run.specs.LoadedFiles.{IsAccepted, IsRefused, IsFileLine, WroteLine, CutLine}
+use Rattle.s2_run.specs.LoadedFiles.{IsAccepted, IsRefused, IsFileLine, WroteLine, CutLine, CutRefusal}
 use Rattle.s2_run.specs.ReportText.{too_big_line, elf_line}
-use Rattle.s2_run.specs.SeenObjects.{Seen, SinkSeen, Streams, streams_of, SinkRose}
-use Rattle.s2_run.specs.ScriptRuns.{ScriptRun, end_of}
+use Rattle.s2_run.specs.SeenObjects.{Seen, Streams, streams_of, SinkRose}
+use Rattle.s2_text.specs.InputLines.{lines_of}
+use Rattle.s2_run.specs.FaultCounts.{SinkSame, NoCallFailed, DeskSame, StreamsSame}
+use Rattle.s2_run.specs.ScriptRuns.{ScriptRun, end_of, ChoosesFrame}
 use Rattle.s2_run.specs.RunTranscript.{Taken, taken}
-use Rattle.s2_run.specs.ScriptEndings.{RunEnds, RunsInput}
+use Rattle.s2_run.specs.ScriptEndings.{ScriptEnds, RunsInput}
 use Rattle.s2_run.specs.MaskedRuns.{first_triplex, ScriptsAreMasked}
+use Rattle.s2_run.specs.Headline.{ScriptHeadline}
 use Rattle.s2_run.specs.declared.output.StreamFault.{StreamFault}
 use Rattle.s2_run.specs.declared.output.StreamFault.TheVariants.{Read, Write}
 use Rattle.s2_run.specs.declared.fault.ProgramFault.{ProgramFault}
@@ -48,10 +51,12 @@ abbrev pub taken_of : Streams → Taken
 taken_of s = taken s.console s.report
 
 -- the run of a program under a script has ended so, and the machine to which it came is left
-pub record LeavesMachine (image : MemoryImage) (input : List ℕ) (result : Result End StreamFault) (last : Option TriplexState) (old new : Streams) : Type 0 where
+pub record LeavesMachine (image : MemoryImage) (input : List ℕ) (result : Result End StreamFault) (last : Option TriplexState)
+    (old new : Streams)
+    : Type 0 where
   pub state : TriplexState
   pub last_is : last ≡ Some state
-  pub ends : RunEnds (first_triplex image) input result state (taken_of old) (taken_of new) new.left
+  pub ends : ScriptEnds (λ frame. first_triplex frame image) input result state (taken_of old) (taken_of new) new.left
 
 -- how the command ends where the program was loaded
 abbrev pub ProgramRuns : MemoryImage → List ℕ → Result RunEnd ProgramFault → Option TriplexState → Streams → Streams → Type 0
@@ -70,22 +75,42 @@ RunsFile file input (Ok LargeFile) last old new = (FILE_LIMIT < length file) × 
 RunsFile file input (Err File) last old new = (new ≡ old) × (last ≡ None)
 RunsFile file input (Err (Stream Read)) last old new = IsAccepted file × LeavesMachine (image_of file) input (Err Read) last old new
 RunsFile file input (Err (Stream Write)) last old new =
-    (IsAccepted file × LeavesMachine (image_of file) input (Err Write) last old new) ⊎ ((line : List ℕ) × IsFileLine file line × CutLine line old new × (last ≡ None))
+    (IsAccepted file × LeavesMachine (image_of file) input (Err Write) last old new)
+    ⊎ ((line : List ℕ) × IsFileLine file line × CutLine line old new × (last ≡ None))
 RunsFile file input (Err NoMemory) last old new = (new ≡ old) × (last ≡ None)
 
--- why a stream fails, whatever the objects tell: which count rose
-abbrev pub RunStreamCause : StreamFault → ℕ → ℕ → SinkSeen → SinkSeen → SinkSeen → SinkSeen → Type 0
-RunStreamCause Read faults faults' console console' report report' = Rose faults faults'
-RunStreamCause Write faults faults' console console' report report' = SinkRose console console' ⊎ SinkRose report report'
+-- why a stream fails, whatever the objects tell: which count rose; and whether a machine is left
+abbrev pub RunStreamCause : StreamFault → Option TriplexState → Seen → Seen → Type 0
+RunStreamCause Read last old new = Rose old.input.faults new.input.faults × IsSome last
+RunStreamCause Write last old new =
+    (SinkRose old.console new.console ⊎ SinkRose old.report new.report)
+    × ((IsSome last × (new.desk.large ≡ old.desk.large)) ⊎ ((last ≡ None) × CutRefusal old new))
 
 -- why an outcome comes, whatever the objects tell, and whether a machine is left
 abbrev pub RunCause : List ℕ → Result RunEnd ProgramFault → Option TriplexState → Seen → Seen → Type 0
 RunCause name (Ok (Ended end)) last old new = IsSome last
 RunCause name (Ok (Refused fault)) last old new = WroteLine (elf_line fault) (streams_of old) (streams_of new) × (last ≡ None)
-RunCause name (Ok LargeFile) last old new = Rose old.desk.large new.desk.large × WroteLine too_big_line (streams_of old) (streams_of new) × (last ≡ None)
-RunCause name (Err File) last old new = Rose (old.desk.faults name) (new.desk.faults name) × (streams_of new ≡ streams_of old) × (last ≡ None)
-RunCause name (Err (Stream fault)) last old new = RunStreamCause fault old.input.faults new.input.faults old.console new.console old.report new.report
+RunCause name (Ok LargeFile) last old new =
+    Rose old.desk.large new.desk.large × WroteLine too_big_line (streams_of old) (streams_of new) × (last ≡ None)
+RunCause name (Err File) last old new =
+    Rose (old.desk.faults name) (new.desk.faults name) × (streams_of new ≡ streams_of old) × (last ≡ None)
+RunCause name (Err (Stream fault)) last old new = RunStreamCause fault last old new
 RunCause name (Err NoMemory) last old new = (streams_of new ≡ streams_of old) × (last ≡ None)
+
+-- the outcome where a machine is left
+abbrev pub left_by : Result End StreamFault → Result RunEnd ProgramFault
+left_by (Ok end) = Ok (Ended end)
+left_by (Err fault) = Err (Stream fault)
+
+-- which counts stay, by the outcome
+abbrev pub RunCounts : Result RunEnd ProgramFault → Seen → Seen → Type 0
+RunCounts (Ok (Ended end)) old new = DeskSame old.desk new.desk × StreamsSame old new
+RunCounts (Ok (Refused fault)) old new = DeskSame old.desk new.desk × StreamsSame old new
+RunCounts (Ok LargeFile) old new = NoCallFailed old.desk new.desk × StreamsSame old new
+RunCounts (Err File) old new = (new.desk.large ≡ old.desk.large) × StreamsSame old new
+RunCounts (Err (Stream Read)) old new = DeskSame old.desk new.desk × SinkSame old.console new.console × SinkSame old.report new.report
+RunCounts (Err (Stream Write)) old new = NoCallFailed old.desk new.desk × (new.input.faults ≡ old.input.faults)
+RunCounts (Err NoMemory) old new = DeskSame old.desk new.desk × StreamsSame old new
 
 -- an end at which the script was read to its end, or the program halted
 abbrev pub IsWholeEnd : End → Type 0
@@ -103,13 +128,21 @@ pub record IsUndisturbed (name : List ℕ) (old new : Seen) : Type 0 where
   pub console : SinkRose old.console new.console → ⊥
   pub report : SinkRose old.report new.report → ⊥
 
--- the command, by its outcome: it ends as the run of the script does; that run is masked; the outcome has its cause; and where no
--- count rose, a script that is read to its end, or a program that halts, is done
+-- the command, by its outcome: it ends as the run of the script does; where a machine is left, the promise on its run is kept; every
+-- run of a script on the file is masked; the outcome has its cause; and where no count rose, a script that is read to its end, or a
+-- program that halts, is done
 pub record Runs (name : List ℕ) (answer : Status) (last : Option TriplexState) (old new : Seen) : Type 0 where
   pub outcome : Result RunEnd ProgramFault
   pub answer_is : answer ≡ run_status outcome
-  pub told : (file input : List ℕ) → old.desk.held name ≡ Some file → old.input.left ≡ Some input → RunsFile file input outcome last (streams_of old) (streams_of new)
+  pub told : (file input : List ℕ) → old.desk.held name ≡ Some file → old.input.left ≡ Some input →
+      RunsFile file input outcome last (streams_of old) (streams_of new)
+  pub headline : (file input : List ℕ) (result : Result End StreamFault) (d : TriplexState) → old.desk.held name ≡ Some file →
+      old.input.left ≡ Some input → outcome ≡ left_by result → last ≡ Some d →
+      IsAccepted file
+      × ScriptHeadline (image_of file) input result d (taken_of (streams_of old)) (taken_of (streams_of new)) new.input.left
   pub masked : (file : List ℕ) → IsAccepted file → ScriptsAreMasked (image_of file)
   pub cause : RunCause name outcome last old new
-  pub complete : (file input : List ℕ) (run : ScriptRun) (left : Option (List ℕ)) → old.desk.held name ≡ Some file → old.input.left ≡ Some input → IsAccepted file → RunsInput (first_triplex (image_of file)) input run left →
-      IsWholeEnd (end_of run.end) → IsUndisturbed name old new → (answer ≡ Done) ⊎ (answer ≡ Memory)
+  pub complete : (file input : List ℕ) (frame : ℕ) (run : ScriptRun) (left : Option (List ℕ)) → old.desk.held name ≡ Some file →
+      old.input.left ≡ Some input → IsAccepted file → ChoosesFrame (lines_of input) frame →
+      RunsInput (first_triplex frame (image_of file)) input run left → IsWholeEnd (end_of run.end) → IsUndisturbed name old new →
+      (answer ≡ Done) ⊎ (answer ≡ Memory)

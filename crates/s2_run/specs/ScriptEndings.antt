@@ -7,9 +7,10 @@ use Rattle.s2_triplex.specs.TriplexState.{TriplexState}
 use Rattle.s2_run.specs.declared.limits.TheConstants.{INPUT_LIMIT}
 use Rattle.s2_run.specs.declared.output.StreamFault.{StreamFault}
 use Rattle.s2_run.specs.declared.output.StreamFault.TheVariants.{Read, Write}
-use Rattle.s2_run.specs.InputLines.{InputLine, IsPlain, lines_of, size_of}
+use Rattle.s2_text.specs.InputLines.{InputLine, lines_of, size_of}
+use Rattle.s2_run.specs.FailedReads.{IsUnreadBehind}
 use Rattle.s2_run.specs.Transcript.{Report, for_outlet}
-use Rattle.s2_run.specs.ScriptRuns.{Stage, ScriptRun, RunsLine, RunsLines, joined_runs, end_of}
+use Rattle.s2_run.specs.ScriptRuns.{ChoosesFrame, Stage, ScriptRun, RunsLine, RunsLines, joined_runs, end_of}
 use Rattle.s2_run.specs.RunTranscript.{Taken, with_transcript, turn_transcript, stages_transcript, closing_lines, run_transcript}
 
 -- the lines of an input before a place have run so, and have not ended
@@ -56,14 +57,11 @@ pub record IsRun (d : TriplexState) (input : List ℕ) (end : End) (state : Trip
   pub state_is : state ≡ run.state
   pub wrote : now ≡ with_transcript before (run_transcript run)
 
--- a read failed: the lines before it have run, and of the next line no more was taken than bytes before its line feed
+-- a read failed: the lines that were complete in the bytes taken have run
 pub record IsRunUnread (d : TriplexState) (input : List ℕ) (state : TriplexState) (before now : Taken) (left : Option (List ℕ)) : Type 0 where
   pub run : ScriptRun
   pub place : RunTo d input run
-  pub part : ℕ
-  pub plain : IsPlain (take part (drop (size_of place.before) input))
-  pub within : size_of place.before + part ≤ INPUT_LIMIT
-  pub left_is : left ≡ Some (drop (size_of place.before + part) input)
+  pub unread : IsUnreadBehind input place.before left
   pub state_is : state ≡ run.state
   pub wrote : now ≡ with_transcript before (stages_transcript run.stages)
 
@@ -100,8 +98,9 @@ pub record IsClosingCutOff (d : TriplexState) (input : List ℕ) (state : Triple
   pub state_is : state ≡ run.state
   pub wrote : now ≡ with_transcript before (stages_transcript run.stages ++ for_outlet Report (take bytes (closing_lines run)))
 
--- how a run of an input ends, from a machine
-abbrev pub RunEnds : TriplexState → List ℕ → Result End StreamFault → TriplexState → Taken → Taken → Option (List ℕ) → Type 0
-RunEnds d input (Ok end) state before now left = IsRun d input end state before now left
-RunEnds d input (Err Read) state before now left = IsRunUnread d input state before now left
-RunEnds d input (Err Write) state before now left = IsRunCut d input state before now left ⊎ IsClosingCutOff d input state before now left
+-- how a run of an input ends, from a machine with the frame that the lines that were taken choose
+abbrev pub ScriptEnds : (ℕ → TriplexState) → List ℕ → Result End StreamFault → TriplexState → Taken → Taken → Option (List ℕ) → Type 0
+ScriptEnds start input (Ok end) state before now left = (frame : ℕ) × ChoosesFrame (lines_of input) frame × IsRun (start frame) input end state before now left
+ScriptEnds start input (Err Read) state before now left = (frame : ℕ) × (unread : IsRunUnread (start frame) input state before now left) × ChoosesFrame unread.place.before frame
+ScriptEnds start input (Err Write) state before now left =
+    (frame : ℕ) × ChoosesFrame (lines_of input) frame × (IsRunCut (start frame) input state before now left ⊎ IsClosingCutOff (start frame) input state before now left)

@@ -3,8 +3,11 @@ use Rattle.std.specs.Prelude.{ℕ, zero, suc, ◌≡◌, ◌+◌, ◌<◌, ◌�
 use Rattle.std.specs.declared.option.Option.{Option}
 use Rattle.std.specs.declared.result.Result.{Result}
 use Rattle.s2_text.specs.declared.stops.BadLine.{BadLine}
-use Rattle.s2_text.specs.LineTables.{ReadsLine}
+use Rattle.s2_clock.specs.declared.numbers.TheConstants.{FRAME}
+use Rattle.s2_text.specs.LineGrammar.{IsBadAt}
+use Rattle.s2_text.specs.LineTables.{ReadsLine, SaysIn, IsRemark, IsLineOf, forms}
 use Rattle.s2_script.specs.ScriptLines.{script_rows}
+use Rattle.s2_script.specs.FirstLines.{first_rows, SaysFrame}
 use Rattle.s2_script.specs.declared.entry.Entry.{Entry}
 use Rattle.s2_script.specs.declared.entry.Entry.TheVariants.{Ticks, One}
 use Rattle.s2_journal.specs.declared.note.Reason.{Reason}
@@ -15,7 +18,7 @@ use Rattle.s2_triplex.specs.TriplexState.{TriplexState}
 use Rattle.s2_triplex.specs.StepTurns.{Turn}
 use Rattle.s2_triplex.specs.TriplexSteps.{TriplexStep, clock_tick, script_act, step_refusal, stepped, step_turn}
 use Rattle.s2_run.specs.declared.limits.TheConstants.{INPUT_LIMIT, TICK_LIMIT}
-use Rattle.s2_run.specs.InputLines.{InputLine}
+use Rattle.s2_text.specs.InputLines.{InputLine}
 
 -- a step that ran, the machine after it, and what it made known
 pub record Stage : Type 0 where
@@ -77,10 +80,28 @@ read_run line d (Err bad) = ended d (Bad line bad.column)
 read_run line d (Ok None) = resting d
 read_run line d (Ok (Some entry)) = entry_run line d entry
 
--- a line's bytes, by the grammar of scripts
+-- what line 1 says: a version line says no step
+abbrev pub ReadsFirstLine : List ℕ → Result (Option Entry) BadLine → Type 0
+ReadsFirstLine text (Ok (Some entry)) = SaysIn script_rows entry text
+ReadsFirstLine text (Ok None) = IsRemark text ⊎ ((frame : ℕ) × SaysFrame frame text)
+ReadsFirstLine text (Err bad) = IsBadAt (IsLineOf (forms first_rows)) text bad.column
+
+-- what a line with a number says, by the grammar of scripts
+abbrev pub ReadsScriptLine : ℕ → List ℕ → Result (Option Entry) BadLine → Type 0
+ReadsScriptLine zero text read = ReadsLine script_rows text read
+ReadsScriptLine (suc zero) text read = ReadsFirstLine text read
+ReadsScriptLine (suc (suc n)) text read = ReadsLine script_rows text read
+
+-- the frame that lines choose: that of a version line where the first one is that, and else FRAME
+abbrev pub ChoosesFrame : List InputLine → ℕ → Type 0
+ChoosesFrame [] frame = frame ≡ FRAME
+ChoosesFrame (first ∷ lines) frame =
+    SaysFrame frame first.text ⊎ ((frame ≡ FRAME) × ((f : ℕ) → SaysFrame f first.text → ⊥))
+
+-- a line's bytes, by that grammar
 pub record RunsText (line : ℕ) (d : TriplexState) (text : List ℕ) (run : ScriptRun) : Type 0 where
   pub read : Result (Option Entry) BadLine
-  pub grammar : ReadsLine script_rows text read
+  pub grammar : ReadsScriptLine line text read
   pub run_is : run ≡ read_run line d read
 
 -- a line with this number, which ends with this byte of the input: it is too long, or it is run

@@ -5,11 +5,12 @@ use Rattle.s2_io.specs.Counts.{Rose}
 use Rattle.s2_machine.specs.Machine.{Machine}
 use Rattle.s2_elf.specs.Images.{image_of}
 use Rattle.s2_run.specs.declared.limits.TheConstants.{FILE_LIMIT}
-use Rattle.s2_run.specs.LoadedFiles.{IsAccepted, IsRefused, WroteLine, CutLine, IsFileLine}
+use Rattle.s2_run.specs.LoadedFiles.{IsAccepted, IsRefused, WroteLine, CutLine, CutRefusal, IsFileLine}
 use Rattle.s2_run.specs.ReportText.{too_big_line, elf_line}
 use Rattle.s2_run.specs.Execution.{started_image}
 use Rattle.s2_run.specs.Replay.{ReplayEnds}
 use Rattle.s2_run.specs.SeenObjects.{Seen, SinkSeen, Streams, streams_of, SinkRose}
+use Rattle.s2_run.specs.FaultCounts.{SinkSame, NoCallFailed, DeskSame, StreamsSame}
 use Rattle.s2_run.specs.declared.verdict.Verdict.{Verdict}
 use Rattle.s2_run.specs.declared.verdict.Verdict.TheVariants.{Passed, Bad, TooLong as LongInput}
 use Rattle.s2_run.specs.declared.output.StreamFault.{StreamFault}
@@ -58,14 +59,31 @@ ReplayCause (Ok verdict) faults faults' console console' report report' = Unit {
 ReplayCause (Err Read) faults faults' console console' report report' = Rose faults faults' × (report'.taken ≡ report.taken)
 ReplayCause (Err Write) faults faults' console console' report report' = SinkRose console console' ⊎ SinkRose report report'
 
+-- where the desk is asked, too: a file may have been too big only where its line was cut
+abbrev pub SingleStreamCause : StreamFault → Seen → Seen → Type 0
+SingleStreamCause Read old new = Rose old.input.faults new.input.faults × (new.report.taken ≡ old.report.taken)
+SingleStreamCause Write old new =
+    (SinkRose old.console new.console ⊎ SinkRose old.report new.report)
+    × ((new.desk.large ≡ old.desk.large) ⊎ CutRefusal old new)
+
 -- why an outcome comes, whatever the objects tell
 abbrev pub SingleCause : List ℕ → Result SingleEnd ProgramFault → Seen → Seen → Type 0
 SingleCause name (Ok (Replayed verdict)) old new = Unit {0}
 SingleCause name (Ok (Refused fault)) old new = WroteLine (elf_line fault) (streams_of old) (streams_of new)
 SingleCause name (Ok LargeFile) old new = Rose old.desk.large new.desk.large × WroteLine too_big_line (streams_of old) (streams_of new)
 SingleCause name (Err File) old new = Rose (old.desk.faults name) (new.desk.faults name) × (streams_of new ≡ streams_of old)
-SingleCause name (Err (Stream fault)) old new = ReplayCause (Err fault) old.input.faults new.input.faults old.console new.console old.report new.report
+SingleCause name (Err (Stream fault)) old new = SingleStreamCause fault old new
 SingleCause name (Err NoMemory) old new = streams_of new ≡ streams_of old
+
+-- which counts stay, by the outcome
+abbrev pub SingleCounts : Result SingleEnd ProgramFault → Seen → Seen → Type 0
+SingleCounts (Ok (Replayed verdict)) old new = DeskSame old.desk new.desk × StreamsSame old new
+SingleCounts (Ok (Refused fault)) old new = DeskSame old.desk new.desk × StreamsSame old new
+SingleCounts (Ok LargeFile) old new = NoCallFailed old.desk new.desk × StreamsSame old new
+SingleCounts (Err File) old new = (new.desk.large ≡ old.desk.large) × StreamsSame old new
+SingleCounts (Err (Stream Read)) old new = DeskSame old.desk new.desk × SinkSame old.console new.console × SinkSame old.report new.report
+SingleCounts (Err (Stream Write)) old new = NoCallFailed old.desk new.desk × (new.input.faults ≡ old.input.faults)
+SingleCounts (Err NoMemory) old new = DeskSame old.desk new.desk × StreamsSame old new
 
 -- the command, by its outcome
 pub record Singles (name : List ℕ) (answer : Status) (old new : Seen) : Type 0 where

@@ -1,9 +1,12 @@
 //! The command `check`: whether each line of an input is one of a script.
 
-ghost use Rattle.std.specs.Prelude.{◌≡◌, ◌≤◌, ℕ, List, Some, IfOk, OnErr};
+ghost use Rattle.std.specs.Prelude.{◌≡◌, ◌≤◌, ℕ, List, Some, IfOk, OnOk, OnErr};
 ghost use Rattle.s2_io.specs.Counts.{Rose};
-ghost use Rattle.s2_run.specs.SeenObjects.{sink_seen};
+ghost use Rattle.s2_run.specs.SeenObjects.{SinkSeen, sink_seen};
+ghost use Rattle.s2_run.specs.FaultCounts.{StreamCounts};
 ghost use Rattle.s2_run.specs.ScriptCheck.{Judges};
+ghost use Rattle.s2_run.specs.ScriptRuns.{ReadsScriptLine};
+ghost use Rattle.s2_run.specs.ScriptRunParts.{entry_of};
 ghost use Rattle.s2_run.specs.CheckCommand.{TakesFront, CheckEnds, CheckCause};
 
 use crate::limits::INPUT_LIMIT;
@@ -12,8 +15,30 @@ use crate::output::{StreamFault, put_line};
 use crate::report::verdict;
 use crate::verdict::Verdict;
 use s2_io::{Failed, Sink, Source};
-use s2_script::read_entry;
-use s2_text::Lines;
+use s2_script::{Entry, First, read_entry, read_first};
+use s2_text::{BadLine, Lines};
+
+/// What a line with a number says. Line 1 may be a version line, which says no step.
+fn entry_at(line: u64, text: &[u8]) -> Result<Option<Entry>, BadLine>
+    ensures { ReadsScriptLine line text.now result }
+{
+    if line == 1 {
+        first_entry(read_first(text))
+    } else {
+        read_entry(text)
+    }
+}
+
+/// The entry of line 1, where it has one.
+fn first_entry(first: Result<First, BadLine>) -> Result<Option<Entry>, BadLine>
+    ensures { result ≡ entry_of first }
+{
+    match first {
+        Ok(First::Frame(_)) => Ok(None),
+        Ok(First::Entry(entry)) => Ok(entry),
+        Err(bad) => Err(bad),
+    }
+}
 
 /// The verdict on the lines of an input.
 fn check_lines<S: Source>(input: &mut S) -> Result<Verdict, Failed>
@@ -21,6 +46,7 @@ fn check_lines<S: Source>(input: &mut S) -> Result<Verdict, Failed>
         → IfOk result (λ verdict. Judges s verdict (S.left input.new)) }
     ensures front { (s : List ℕ) → S.left input.old ≡ Some s → OnErr result (TakesFront s (S.left input.new)) }
     ensures failed { OnErr result (Rose (S.faults input.old) (S.faults input.new)) }
+    ensures passed { OnOk result (S.faults input.new ≡ S.faults input.old) }
 {
     let mut held = Lines::new();
     let mut ended = false;
@@ -35,7 +61,7 @@ fn check_lines<S: Source>(input: &mut S) -> Result<Verdict, Failed>
         };
         taken += size;
         lines += 1;
-        match read_entry(held.line()) {
+        match entry_at(lines, held.line()) {
             Ok(_) => {}
             Err(bad) => {
                 return Ok(Verdict::Bad {
@@ -52,6 +78,9 @@ pub fn check<S: Source, R: Sink>(input: &mut S, report: &mut R) -> Result<Verdic
     ensures told { (s : List ℕ) → S.left input.old ≡ Some s
         → CheckEnds s result (S.left input.new) (R.taken report.old) (R.taken report.new) }
     ensures cause { CheckCause result (S.faults input.old) (S.faults input.new)
+        (sink_seen (R.taken report.old) (R.faults report.old) (R.empty_takes report.old))
+        (sink_seen (R.taken report.new) (R.faults report.new) (R.empty_takes report.new)) }
+    ensures counts { (console : SinkSeen) → StreamCounts result (S.faults input.old) (S.faults input.new) console console
         (sink_seen (R.taken report.old) (R.faults report.old) (R.empty_takes report.old))
         (sink_seen (R.taken report.new) (R.faults report.new) (R.empty_takes report.new)) }
 {

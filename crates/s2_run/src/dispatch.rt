@@ -4,6 +4,7 @@ ghost use Rattle.std.specs.Prelude.{◌≡◌, Ok, Err, None, map, string_bytes}
 ghost use Rattle.std.specs.declared.result.Result.{Result};
 ghost use Rattle.s2_run.specs.CommandWords.{Request, words_of, IsOffered, IsUsage};
 ghost use Rattle.s2_run.specs.SeenObjects.{seen, desk_seen, source_seen, sink_seen};
+ghost use Rattle.s2_run.specs.FaultCounts.{FaultsAreTold};
 ghost use Rattle.s2_run.specs.RunCommand.{end_status, run_status};
 ghost use Rattle.s2_run.specs.SingleCommand.{single_status};
 ghost use Rattle.s2_run.specs.CheckCommand.{check_status};
@@ -134,6 +135,17 @@ pub fn serve<D: Desk, S: Source, C: Sink, R: Sink>(
     // Other words are refused.
     ensures usage { IsUsage (map string_bytes words.now)
         → RefusesWords result last.new
+        (seen (desk_seen (D.held desk.old) (D.faults desk.old) (D.large desk.old))
+        (source_seen (S.left input.old) (S.faults input.old))
+        (sink_seen (C.taken console.old) (C.faults console.old) (C.empty_takes console.old))
+        (sink_seen (R.taken report.old) (R.faults report.old) (R.empty_takes report.old)))
+        (seen (desk_seen (D.held desk.new) (D.faults desk.new) (D.large desk.new))
+        (source_seen (S.left input.new) (S.faults input.new))
+        (sink_seen (C.taken console.new) (C.faults console.new) (C.empty_takes console.new))
+        (sink_seen (R.taken report.new) (R.faults report.new) (R.empty_takes report.new))) }
+
+    // Whatever the words, a call that failed is answered by its fault.
+    ensures counts { FaultsAreTold result
         (seen (desk_seen (D.held desk.old) (D.faults desk.old) (D.large desk.old))
         (source_seen (S.left input.old) (S.faults input.old))
         (sink_seen (C.taken console.old) (C.faults console.old) (C.empty_takes console.old))

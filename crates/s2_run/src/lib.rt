@@ -23,7 +23,10 @@ mod verdict;
 mod words;
 
 pub use dispatch::serve;
-pub use laws::{inputs_have_one_run, replays_give_the_same, scripts_are_masked};
+pub use laws::{
+    inputs_have_one_run, mend_lines_leave_scripts, mends_leave_scripts, replays_give_the_same,
+    scripts_are_masked, unversioned_scripts_stay,
+};
 pub use limits::{FILE_LIMIT, INPUT_LIMIT, TICK_LIMIT};
 pub use status::Status;
 

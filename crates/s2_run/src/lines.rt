@@ -1,8 +1,8 @@
 //! The lines of an input, read a byte at a time.
 
-ghost use Rattle.std.specs.Prelude.{◌≡◌, ◌<◌, ◌≤◌, ◌^◌, ℕ, List, [], Some, true, IfOk, OnOk, OnErr};
+ghost use Rattle.std.specs.Prelude.{◌≡◌, ◌<◌, ◌≤◌, ◌^◌, ℕ, List, [], Some, true, false, IfOk, OnOk, OnErr};
 ghost use Rattle.s2_io.specs.Counts.{Rose};
-ghost use Rattle.s2_run.specs.NextLine.{ReadsNext, FitsRoom};
+ghost use Rattle.s2_run.specs.NextLine.{ReadsNext, FitsRoom, EndsFed};
 
 use crate::output::next_byte;
 use s2_io::{Failed, Source};
@@ -21,7 +21,7 @@ pub enum LineRead {
 
 /// Reads the next line of an input into `line`, one byte at a time. At most `room` bytes and one more are
 /// read: where the line has more than `room`, it is too long. `ended` tells whether the input has told its
-/// end; after that it is not read again.
+/// end; after that it is not read again. A line has its line feed unless the input has told its end behind it.
 pub fn read_line<S: Source>(
     input: &mut S,
     room: u64,
@@ -34,8 +34,11 @@ pub fn read_line<S: Source>(
     ensures ended { (s : List ℕ) → S.left input.old ≡ Some s → (ended.old ≡ true → s ≡ [])
         → OnOk result (ended.new ≡ true → S.left input.new ≡ Some []) }
     ensures size { IfOk result (FitsRoom room) }
+    ensures fed { (s : List ℕ) → S.left input.old ≡ Some s → IfOk result (λ read. ended.new ≡ false → EndsFed s read) }
+    ensures going { OnErr result (ended.old ≡ false) }
     ensures faults_stay { S.faults input.old ≤ S.faults input.new }
     ensures failed { OnErr result (Rose (S.faults input.old) (S.faults input.new)) }
+    ensures passed { OnOk result (S.faults input.new ≡ S.faults input.old) }
 {
     line.clear();
     if *ended {

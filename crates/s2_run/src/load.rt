@@ -1,12 +1,13 @@
 //! The command `load N`: a built-in workload runs on the triple machine, under the lines of its script.
 
-ghost use Rattle.std.specs.Prelude.{◌≡◌, ◌<◌, ◌≤◌, ◌^◌, ◌⊎◌, None, OnErr, length};
+ghost use Rattle.std.specs.Prelude.{◌≡◌, ◌<◌, ◌≤◌, ◌^◌, ◌⊎◌, None, OnOk, OnErr, length};
 ghost use Rattle.s2_gen.specs.declared.workloads.TheConstants.{WORKLOADS};
 ghost use Rattle.s2_run.specs.SeenObjects.{SinkRose, sink_seen};
+ghost use Rattle.s2_run.specs.FaultCounts.{SinkSame};
 ghost use Rattle.s2_run.specs.RunTranscript.{taken};
 ghost use Rattle.s2_run.specs.ScriptRunParts.{WriteCause};
 ghost use Rattle.s2_run.specs.EntryRuns.{entries_run, AreProperEntries, OpenRun, WrittenRun};
-ghost use Rattle.s2_run.specs.LoadCommand.{LoadEnds};
+ghost use Rattle.s2_run.specs.LoadCommand.{LoadEnds, WorkloadCounts};
 
 use crate::closing::put_end_lines;
 use crate::script_lines::{Finish, run_entry};
@@ -81,6 +82,12 @@ fn run_to_end<C: Sink, R: Sink>(
         ⊎ SinkRose
         (sink_seen (R.taken report.old) (R.faults report.old) (R.empty_takes report.old))
         (sink_seen (R.taken report.new) (R.faults report.new) (R.empty_takes report.new))) }
+    ensures counts { OnOk result (SinkSame
+        (sink_seen (C.taken console.old) (C.faults console.old) (C.empty_takes console.old))
+        (sink_seen (C.taken console.new) (C.faults console.new) (C.empty_takes console.new))
+        × SinkSame
+        (sink_seen (R.taken report.old) (R.faults report.old) (R.empty_takes report.old))
+        (sink_seen (R.taken report.new) (R.faults report.new) (R.empty_takes report.new))) }
 {
     let finish = match run_entries(plant, entries, console, report) {
         Ok(finish) => finish,
@@ -110,6 +117,11 @@ pub fn load<C: Sink, R: Sink>(
     requires from_one { 1 ≤ n }
     requires known { n ≤ WORKLOADS }
     ensures ends { LoadEnds n result last.new
+        (sink_seen (C.taken console.old) (C.faults console.old) (C.empty_takes console.old))
+        (sink_seen (C.taken console.new) (C.faults console.new) (C.empty_takes console.new))
+        (sink_seen (R.taken report.old) (R.faults report.old) (R.empty_takes report.old))
+        (sink_seen (R.taken report.new) (R.faults report.new) (R.empty_takes report.new)) }
+    ensures counts { WorkloadCounts result
         (sink_seen (C.taken console.old) (C.faults console.old) (C.empty_takes console.old))
         (sink_seen (C.taken console.new) (C.faults console.new) (C.empty_takes console.new))
         (sink_seen (R.taken report.old) (R.faults report.old) (R.empty_takes report.old))

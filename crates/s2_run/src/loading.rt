@@ -2,7 +2,9 @@
 
 ghost use Rattle.std.specs.Prelude.{◌≡◌, ◌≤◌, ℕ, List, Some, length};
 ghost use Rattle.s2_run.specs.declared.limits.TheConstants.{FILE_LIMIT};
-ghost use Rattle.s2_run.specs.LoadedFiles.{LoadsFile, LoadCause};
+ghost use Rattle.s2_run.specs.SeenObjects.{DeskSeen, desk_seen};
+ghost use Rattle.s2_run.specs.FaultCounts.{DeskSame};
+ghost use Rattle.s2_run.specs.LoadedFiles.{LoadsFile, LoadCause, LoadCounts};
 
 use crate::limits::FILE_LIMIT;
 use s2_elf::{ElfFail, ElfFault, Image, read_elf};
@@ -27,6 +29,8 @@ pub fn load<D: Desk>(alloc: Global, name: &str, desk: &mut D) -> Result<Image, L
     ensures told { (file : List ℕ) → D.held desk.old name.now ≡ Some file → LoadsFile file result }
     ensures cause { LoadCause result (D.faults desk.old name.now) (D.faults desk.new name.now)
         (D.large desk.old) (D.large desk.new) }
+    ensures counts { LoadCounts result (desk_seen (D.held desk.old) (D.faults desk.old) (D.large desk.old))
+        (desk_seen (D.held desk.new) (D.faults desk.new) (D.large desk.new)) }
 {
     match desk.whole(alloc, name, FILE_LIMIT) {
         Ok(bytes) => image_of(alloc, bytes.as_slice()),
@@ -41,6 +45,7 @@ fn image_of(alloc: Global, bytes: &[u8]) -> Result<Image, LoadFail>
     requires { length bytes.now ≤ FILE_LIMIT }
     ensures told { LoadsFile bytes.now result }
     ensures cause { (f f' l l' : ℕ) → LoadCause result f f' l l' }
+    ensures counts { (desk desk' : DeskSeen) → DeskSame desk desk' → LoadCounts result desk desk' }
 {
     match read_elf(alloc, bytes) {
         Ok(image) => Ok(image),

@@ -1,6 +1,6 @@
 //! One byte in, and a whole piece out.
 
-ghost use Rattle.std.specs.Prelude.{◌≡◌, ◌<◌, ◌≤◌, ◌+◌, ◌^◌, ◌++◌, ℕ, List, Some, IfOk, IfErr, OnErr, length};
+ghost use Rattle.std.specs.Prelude.{◌≡◌, ◌<◌, ◌≤◌, ◌+◌, ◌^◌, ◌++◌, ℕ, List, Some, IfOk, IfErr, OnOk, OnErr, length};
 ghost use Rattle.s2_io.specs.Counts.{Rose};
 ghost use Rattle.s2_io.specs.Sources.{dropped};
 ghost use Rattle.s2_io.specs.Sinks.{appended};
@@ -35,6 +35,7 @@ pub fn next_byte<S: Source>(source: &mut S) -> Result<Option<u8>, Failed>
     ensures rest { S.left source.new ≡ dropped (S.left source.old) (byte_count result) }
     ensures faults_stay { S.faults source.old ≤ S.faults source.new }
     ensures failed { OnErr result (Rose (S.faults source.old) (S.faults source.new)) }
+    ensures passed { OnOk result (S.faults source.new ≡ S.faults source.old) }
 {
     let mut buffer = [0u8; 1];
     match source.read(&mut buffer) {

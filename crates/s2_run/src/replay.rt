@@ -5,11 +5,14 @@ ghost use Rattle.std.specs.declared.option.Option.{Option};
 ghost use Rattle.s2_io.specs.Sinks.{appended};
 ghost use Rattle.s2_machine.specs.MachineRun.{after_delivery};
 ghost use Rattle.s2_single.specs.SingleMachine.{in_run};
+ghost use Rattle.s2_ports.specs.Events.{IsEventInRange};
+ghost use Rattle.s2_journal.specs.ReportLines.{IsLineInRange};
 ghost use Rattle.s2_journal.specs.ReportOrder.{closing_lines};
 ghost use Rattle.s2_run.specs.declared.verdict.Verdict.{Verdict};
 ghost use Rattle.s2_run.specs.declared.limits.TheConstants.{INPUT_LIMIT};
 ghost use Rattle.s2_run.specs.SentPieces.{sent, SinkCause};
-ghost use Rattle.s2_run.specs.SeenObjects.{streams, sink_seen};
+ghost use Rattle.s2_run.specs.SeenObjects.{SinkSeen, streams, sink_seen};
+ghost use Rattle.s2_run.specs.FaultCounts.{StreamCounts};
 ghost use Rattle.s2_run.specs.ReplayParts.{reached, after_line, LinesEnd, LinesCause};
 ghost use Rattle.s2_run.specs.Replay.{run_of, replay_end, ReplayEnds};
 ghost use Rattle.s2_run.specs.SingleCommand.{ReplayCause};
@@ -57,6 +60,7 @@ fn run_to<C: Sink>(machine: &mut Single, run: u64, console: &mut C) -> Result<u6
 
 /// An event acts on a machine that has not halted.
 fn deliver(machine: &mut Single, event: Event)
+    requires { IsEventInRange event }
     ensures machine { (bytes : List ℕ) → after_delivery (in_run machine.old bytes) event ≡ in_run machine.new bytes }
     ensures run { machine.new.cpu.run ≡ machine.old.cpu.run }
 {
@@ -68,6 +72,7 @@ fn deliver(machine: &mut Single, event: Event)
 /// Does what a line of a report says: it runs the machine to its run count, and delivers its event. Other
 /// lines do nothing. The bytes that went to the console are counted.
 fn run_line<C: Sink>(machine: &mut Single, line: &ReportLine, console: &mut C) -> Result<u64, Cut>
+    requires { IsLineInRange line.now }
     ensures bytes { C.taken console.new
         ≡ appended (C.taken console.old) (sent result (after_line line.now machine.old).bytes) }
     ensures machine { OnOk result (machine.new ≡ (after_line line.now machine.old).machine) }
@@ -122,6 +127,9 @@ fn replay_lines<S: Source, C: Sink>(
     ensures cause { LinesCause result (S.faults input.old) (S.faults input.new)
         (sink_seen (C.taken console.old) (C.faults console.old) (C.empty_takes console.old))
         (sink_seen (C.taken console.new) (C.faults console.new) (C.empty_takes console.new)) }
+    ensures counts { (report : SinkSeen) → StreamCounts result (S.faults input.old) (S.faults input.new)
+        (sink_seen (C.taken console.old) (C.faults console.old) (C.empty_takes console.old))
+        (sink_seen (C.taken console.new) (C.faults console.new) (C.empty_takes console.new)) report report }
 {
     let mut held = Lines::new();
     let mut ended = false;
@@ -188,6 +196,11 @@ pub fn replay<S: Source, C: Sink, R: Sink>(
         (streams (S.left input.old) (C.taken console.old) (R.taken report.old))
         (streams (S.left input.new) (C.taken console.new) (R.taken report.new)) }
     ensures cause { ReplayCause result (S.faults input.old) (S.faults input.new)
+        (sink_seen (C.taken console.old) (C.faults console.old) (C.empty_takes console.old))
+        (sink_seen (C.taken console.new) (C.faults console.new) (C.empty_takes console.new))
+        (sink_seen (R.taken report.old) (R.faults report.old) (R.empty_takes report.old))
+        (sink_seen (R.taken report.new) (R.faults report.new) (R.empty_takes report.new)) }
+    ensures counts { StreamCounts result (S.faults input.old) (S.faults input.new)
         (sink_seen (C.taken console.old) (C.faults console.old) (C.empty_takes console.old))
         (sink_seen (C.taken console.new) (C.faults console.new) (C.empty_takes console.new))
         (sink_seen (R.taken report.old) (R.faults report.old) (R.empty_takes report.old))

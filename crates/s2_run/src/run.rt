@@ -2,12 +2,16 @@
 
 ghost use Rattle.std.specs.Prelude.{◌≡◌, ◌≤◌, ℕ, List, Some, None, IfSome, length};
 ghost use Rattle.s2_run.specs.SeenObjects.{DeskSeen, seen, desk_seen, source_seen, sink_seen, streams};
+ghost use Rattle.s2_run.specs.FaultCounts.{DeskSame, StreamCounts};
 ghost use Rattle.s2_run.specs.RunTranscript.{taken};
-ghost use Rattle.s2_run.specs.ScriptEndings.{RunEnds};
+ghost use Rattle.s2_run.specs.ScriptEndings.{ScriptEnds};
 ghost use Rattle.s2_run.specs.ScriptRunParts.{StreamCause};
+ghost use Rattle.s2_clock.specs.declared.numbers.TheConstants.{FRAME};
 ghost use Rattle.s2_elf.specs.MemoryImage.{MemoryImage};
+ghost use Rattle.s2_plant.specs.StepPromises.{IsFirstPlant};
+ghost use Rattle.s2_triplex.specs.TriplexState.{with_frame};
 ghost use Rattle.s2_run.specs.MaskedRuns.{first_triplex};
-ghost use Rattle.s2_run.specs.RunCommand.{ProgramRuns, RunsFile, RunCause};
+ghost use Rattle.s2_run.specs.RunCommand.{ProgramRuns, RunsFile, RunCause, RunCounts};
 
 use crate::closing::put_end_lines;
 use crate::fault::ProgramFault;
@@ -43,9 +47,16 @@ fn run_script<S: Source, C: Sink, R: Sink>(
     requires running { plant.old.halt ≡ None }
     requires ticks { plant.old.ticks ≡ 0 }
     requires events { plant.old.accepted ≡ 0 }
-    ensures told { (s : List ℕ) → S.left input.old ≡ Some s → RunEnds plant.old s result plant.new
+    requires first { IsFirstPlant plant.old }
+    requires frame { plant.old.frame ≡ FRAME }
+    ensures told { (s : List ℕ) → S.left input.old ≡ Some s → ScriptEnds (λ frame. with_frame frame plant.old) s result plant.new
         (taken (C.taken console.old) (R.taken report.old)) (taken (C.taken console.new) (R.taken report.new)) (S.left input.new) }
     ensures cause { StreamCause result (S.faults input.old) (S.faults input.new)
+        (sink_seen (C.taken console.old) (C.faults console.old) (C.empty_takes console.old))
+        (sink_seen (C.taken console.new) (C.faults console.new) (C.empty_takes console.new))
+        (sink_seen (R.taken report.old) (R.faults report.old) (R.empty_takes report.old))
+        (sink_seen (R.taken report.new) (R.faults report.new) (R.empty_takes report.new)) }
+    ensures counts { StreamCounts result (S.faults input.old) (S.faults input.new)
         (sink_seen (C.taken console.old) (C.faults console.old) (C.empty_takes console.old))
         (sink_seen (C.taken console.new) (C.faults console.new) (C.empty_takes console.new))
         (sink_seen (R.taken report.old) (R.faults report.old) (R.empty_takes report.old))
@@ -78,11 +89,20 @@ fn run_machine<S: Source, C: Sink, R: Sink>(
     requires running { machine.halt ≡ None }
     requires ticks { machine.ticks ≡ 0 }
     requires events { machine.accepted ≡ 0 }
-    ensures told { (s : List ℕ) (image : MemoryImage) → machine ≡ first_triplex image → S.left input.old ≡ Some s
+    requires first { IsFirstPlant machine }
+    requires frame { machine.frame ≡ FRAME }
+    ensures told { (s : List ℕ) (image : MemoryImage) → machine ≡ first_triplex FRAME image → S.left input.old ≡ Some s
         → ProgramRuns image s result last.new
         (streams (S.left input.old) (C.taken console.old) (R.taken report.old))
         (streams (S.left input.new) (C.taken console.new) (R.taken report.new)) }
-    ensures cause { (name : List ℕ) (desk desk' : DeskSeen) → RunCause name result last.new
+    ensures cause { (name : List ℕ) (desk desk' : DeskSeen) → DeskSame desk desk' → RunCause name result last.new
+        (seen desk (source_seen (S.left input.old) (S.faults input.old))
+        (sink_seen (C.taken console.old) (C.faults console.old) (C.empty_takes console.old))
+        (sink_seen (R.taken report.old) (R.faults report.old) (R.empty_takes report.old)))
+        (seen desk' (source_seen (S.left input.new) (S.faults input.new))
+        (sink_seen (C.taken console.new) (C.faults console.new) (C.empty_takes console.new))
+        (sink_seen (R.taken report.new) (R.faults report.new) (R.empty_takes report.new))) }
+    ensures counts { (desk desk' : DeskSeen) → DeskSame desk desk' → RunCounts result
         (seen desk (source_seen (S.left input.old) (S.faults input.old))
         (sink_seen (C.taken console.old) (C.faults console.old) (C.empty_takes console.old))
         (sink_seen (R.taken report.old) (R.faults report.old) (R.empty_takes report.old)))
@@ -111,7 +131,14 @@ fn run_program<S: Source, C: Sink, R: Sink>(
         → ProgramRuns image s result last.new
         (streams (S.left input.old) (C.taken console.old) (R.taken report.old))
         (streams (S.left input.new) (C.taken console.new) (R.taken report.new)) }
-    ensures cause { (name : List ℕ) (desk desk' : DeskSeen) → RunCause name result last.new
+    ensures cause { (name : List ℕ) (desk desk' : DeskSeen) → DeskSame desk desk' → RunCause name result last.new
+        (seen desk (source_seen (S.left input.old) (S.faults input.old))
+        (sink_seen (C.taken console.old) (C.faults console.old) (C.empty_takes console.old))
+        (sink_seen (R.taken report.old) (R.faults report.old) (R.empty_takes report.old)))
+        (seen desk' (source_seen (S.left input.new) (S.faults input.new))
+        (sink_seen (C.taken console.new) (C.faults console.new) (C.empty_takes console.new))
+        (sink_seen (R.taken report.new) (R.faults report.new) (R.empty_takes report.new))) }
+    ensures counts { (desk desk' : DeskSeen) → DeskSame desk desk' → RunCounts result
         (seen desk (source_seen (S.left input.old) (S.faults input.old))
         (sink_seen (C.taken console.old) (C.faults console.old) (C.empty_takes console.old))
         (sink_seen (R.taken report.old) (R.faults report.old) (R.empty_takes report.old)))
@@ -141,6 +168,15 @@ pub fn run<D: Desk, S: Source, C: Sink, R: Sink>(
         (streams (S.left input.old) (C.taken console.old) (R.taken report.old))
         (streams (S.left input.new) (C.taken console.new) (R.taken report.new)) }
     ensures cause { RunCause name.now result last.new
+        (seen (desk_seen (D.held desk.old) (D.faults desk.old) (D.large desk.old))
+        (source_seen (S.left input.old) (S.faults input.old))
+        (sink_seen (C.taken console.old) (C.faults console.old) (C.empty_takes console.old))
+        (sink_seen (R.taken report.old) (R.faults report.old) (R.empty_takes report.old)))
+        (seen (desk_seen (D.held desk.new) (D.faults desk.new) (D.large desk.new))
+        (source_seen (S.left input.new) (S.faults input.new))
+        (sink_seen (C.taken console.new) (C.faults console.new) (C.empty_takes console.new))
+        (sink_seen (R.taken report.new) (R.faults report.new) (R.empty_takes report.new))) }
+    ensures counts { RunCounts result
         (seen (desk_seen (D.held desk.old) (D.faults desk.old) (D.large desk.old))
         (source_seen (S.left input.old) (S.faults input.old))
         (sink_seen (C.taken console.old) (C.faults console.old) (C.empty_takes console.old))

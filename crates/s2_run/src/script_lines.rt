@@ -1,17 +1,20 @@
 //! The lines of a script, run one after another.
 
 ghost use Rattle.std.specs.Prelude.{◌≡◌, ◌<◌, ◌≤◌, ◌+◌, ◌^◌, ℕ, List, Some, None, IfOk, OnErr};
-ghost use Rattle.s2_triplex.specs.TriplexState.{TriplexState};
-ghost use Rattle.s2_text.specs.LineTables.{ReadsLine};
+ghost use Rattle.s2_clock.specs.declared.numbers.TheConstants.{FRAME};
+ghost use Rattle.s2_plant.specs.StepPromises.{IsFirstPlant};
+ghost use Rattle.s2_triplex.specs.TriplexState.{TriplexState, with_frame};
 ghost use Rattle.s2_text.specs.declared.stops.BadLine.{BadLine};
-ghost use Rattle.s2_script.specs.ScriptLines.{script_rows, IsProperEntry};
+ghost use Rattle.s2_script.specs.ScriptLines.{IsProperEntry};
+ghost use Rattle.s2_script.specs.FirstLines.{ReadsFirst};
 ghost use Rattle.s2_script.specs.declared.entry.Entry.{Entry};
 ghost use Rattle.s2_run.specs.declared.limits.TheConstants.{TICK_LIMIT};
 ghost use Rattle.s2_run.specs.SeenObjects.{sink_seen};
-ghost use Rattle.s2_run.specs.ScriptRuns.{entry_run, read_run};
+ghost use Rattle.s2_run.specs.FaultCounts.{StreamCounts};
+ghost use Rattle.s2_run.specs.ScriptRuns.{entry_run, read_run, ReadsScriptLine};
 ghost use Rattle.s2_run.specs.RunTranscript.{taken};
 ghost use Rattle.s2_run.specs.ScriptEndings.{CutAtStage};
-ghost use Rattle.s2_run.specs.ScriptRunParts.{HasRun, LineWentIf, LinesEnd, SinkStays, WriteCause, StreamCause};
+ghost use Rattle.s2_run.specs.ScriptRunParts.{entry_of, framed_by, HasRun, LineWentIf, LinesEnd, ReadsAt, SinkStays, WriteCause, StreamCause};
 
 use crate::limits::{INPUT_LIMIT, TICK_LIMIT};
 use crate::lines::{LineRead, read_line};
@@ -20,7 +23,7 @@ use crate::stepping::{take_act, take_ticks};
 use s2_io::{Failed, Sink, Source};
 use s2_journal::End;
 use s2_plant::Plant;
-use s2_script::{Entry, read_entry};
+use s2_script::{Entry, First, read_entry, read_first};
 use s2_text::{BadLine, Lines};
 
 /// Where the lines of an input came to an end.
@@ -68,6 +71,35 @@ pub fn run_entry<C: Sink, R: Sink>(
     }
 }
 
+/// The entry of line 1, where it has one. Where it is a version line, the machine has its frame.
+fn choose_frame(plant: &mut Plant, first: Result<First, BadLine>) -> Result<Option<Entry>, BadLine>
+    requires first { IsFirstPlant plant.old }
+    requires grammar { (text : List ℕ) × ReadsFirst text first }
+    ensures read { result ≡ entry_of first }
+    ensures machine { plant.new ≡ framed_by first plant.old }
+{
+    match first {
+        Ok(First::Frame(frame)) => {
+            plant.set_frame(frame);
+            Ok(None)
+        }
+        Ok(First::Entry(entry)) => Ok(entry),
+        Err(bad) => Err(bad),
+    }
+}
+
+/// Reads a line with a number: line 1 may choose the frame.
+fn read_at(plant: &mut Plant, line: u64, text: &[u8]) -> Result<Option<Entry>, BadLine>
+    requires { line ≡ 1 → IsFirstPlant plant.old }
+    ensures { ReadsAt line text.now plant.old result plant.new }
+{
+    if line == 1 {
+        choose_frame(plant, read_first(text))
+    } else {
+        read_entry(text)
+    }
+}
+
 /// Runs a line as it was read.
 fn run_read<C: Sink, R: Sink>(
     plant: &mut Plant,
@@ -77,7 +109,7 @@ fn run_read<C: Sink, R: Sink>(
     console: &mut C,
     report: &mut R,
 ) -> Result<Option<End>, Failed>
-    requires grammar { (text : List ℕ) × ReadsLine script_rows text read }
+    requires grammar { (text : List ℕ) × ReadsScriptLine line text read }
     requires running { plant.old.halt ≡ None }
     requires ticks { plant.old.ticks ≤ TICK_LIMIT }
     requires events { plant.old.accepted < 2 ^ 60 }
@@ -115,9 +147,16 @@ pub fn run_lines<S: Source, C: Sink, R: Sink>(
     requires running { plant.old.halt ≡ None }
     requires ticks { plant.old.ticks ≡ 0 }
     requires events { plant.old.accepted ≡ 0 }
-    ensures told { (s : List ℕ) → S.left input.old ≡ Some s → LinesEnd plant.old s result plant.new
+    requires first { IsFirstPlant plant.old }
+    requires frame { plant.old.frame ≡ FRAME }
+    ensures told { (s : List ℕ) → S.left input.old ≡ Some s → LinesEnd (λ frame. with_frame frame plant.old) s result plant.new
         (taken (C.taken console.old) (R.taken report.old)) (taken (C.taken console.new) (R.taken report.new)) (S.left input.new) }
     ensures cause { StreamCause result (S.faults input.old) (S.faults input.new)
+        (sink_seen (C.taken console.old) (C.faults console.old) (C.empty_takes console.old))
+        (sink_seen (C.taken console.new) (C.faults console.new) (C.empty_takes console.new))
+        (sink_seen (R.taken report.old) (R.faults report.old) (R.empty_takes report.old))
+        (sink_seen (R.taken report.new) (R.faults report.new) (R.empty_takes report.new)) }
+    ensures counts { StreamCounts result (S.faults input.old) (S.faults input.new)
         (sink_seen (C.taken console.old) (C.faults console.old) (C.empty_takes console.old))
         (sink_seen (C.taken console.new) (C.faults console.new) (C.empty_takes console.new))
         (sink_seen (R.taken report.old) (R.faults report.old) (R.empty_takes report.old))
@@ -153,7 +192,7 @@ pub fn run_lines<S: Source, C: Sink, R: Sink>(
         };
         taken += size;
         lines += 1;
-        let read = read_entry(held.line());
+        let read = read_at(plant, lines, held.line());
         match run_read(plant, read, lines, &mut written, console, report) {
             Ok(None) => {}
             Ok(Some(end)) => return Ok(Finish { end, written }),

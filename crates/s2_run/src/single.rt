@@ -3,7 +3,8 @@
 ghost use Rattle.std.specs.Prelude.{◌≡◌, ℕ, List, Some};
 ghost use Rattle.s2_run.specs.Execution.{started_image};
 ghost use Rattle.s2_run.specs.SeenObjects.{DeskSeen, seen, desk_seen, source_seen, sink_seen, streams};
-ghost use Rattle.s2_run.specs.SingleCommand.{ProgramEnds, SingleEnds, SingleCause};
+ghost use Rattle.s2_run.specs.FaultCounts.{DeskSame};
+ghost use Rattle.s2_run.specs.SingleCommand.{ProgramEnds, SingleEnds, SingleCause, SingleCounts};
 
 use crate::fault::ProgramFault;
 use crate::loading::{LoadFail, load};
@@ -40,7 +41,14 @@ fn replay_machine<S: Source, C: Sink, R: Sink>(
         → ProgramEnds machine s result
         (streams (S.left input.old) (C.taken console.old) (R.taken report.old))
         (streams (S.left input.new) (C.taken console.new) (R.taken report.new)) }
-    ensures cause { (name : List ℕ) (desk desk' : DeskSeen) → SingleCause name result
+    ensures cause { (name : List ℕ) (desk desk' : DeskSeen) → DeskSame desk desk' → SingleCause name result
+        (seen desk (source_seen (S.left input.old) (S.faults input.old))
+        (sink_seen (C.taken console.old) (C.faults console.old) (C.empty_takes console.old))
+        (sink_seen (R.taken report.old) (R.faults report.old) (R.empty_takes report.old)))
+        (seen desk' (source_seen (S.left input.new) (S.faults input.new))
+        (sink_seen (C.taken console.new) (C.faults console.new) (C.empty_takes console.new))
+        (sink_seen (R.taken report.new) (R.faults report.new) (R.empty_takes report.new))) }
+    ensures counts { (desk desk' : DeskSeen) → DeskSame desk desk' → SingleCounts result
         (seen desk (source_seen (S.left input.old) (S.faults input.old))
         (sink_seen (C.taken console.old) (C.faults console.old) (C.empty_takes console.old))
         (sink_seen (R.taken report.old) (R.faults report.old) (R.empty_takes report.old)))
@@ -66,7 +74,14 @@ fn replay_program<S: Source, C: Sink, R: Sink>(
         → ProgramEnds (started_image image) s result
         (streams (S.left input.old) (C.taken console.old) (R.taken report.old))
         (streams (S.left input.new) (C.taken console.new) (R.taken report.new)) }
-    ensures cause { (name : List ℕ) (desk desk' : DeskSeen) → SingleCause name result
+    ensures cause { (name : List ℕ) (desk desk' : DeskSeen) → DeskSame desk desk' → SingleCause name result
+        (seen desk (source_seen (S.left input.old) (S.faults input.old))
+        (sink_seen (C.taken console.old) (C.faults console.old) (C.empty_takes console.old))
+        (sink_seen (R.taken report.old) (R.faults report.old) (R.empty_takes report.old)))
+        (seen desk' (source_seen (S.left input.new) (S.faults input.new))
+        (sink_seen (C.taken console.new) (C.faults console.new) (C.empty_takes console.new))
+        (sink_seen (R.taken report.new) (R.faults report.new) (R.empty_takes report.new))) }
+    ensures counts { (desk desk' : DeskSeen) → DeskSame desk desk' → SingleCounts result
         (seen desk (source_seen (S.left input.old) (S.faults input.old))
         (sink_seen (C.taken console.old) (C.faults console.old) (C.empty_takes console.old))
         (sink_seen (R.taken report.old) (R.faults report.old) (R.empty_takes report.old)))
@@ -94,6 +109,15 @@ pub fn single<D: Desk, S: Source, C: Sink, R: Sink>(
         (streams (S.left input.old) (C.taken console.old) (R.taken report.old))
         (streams (S.left input.new) (C.taken console.new) (R.taken report.new)) }
     ensures cause { SingleCause name.now result
+        (seen (desk_seen (D.held desk.old) (D.faults desk.old) (D.large desk.old))
+        (source_seen (S.left input.old) (S.faults input.old))
+        (sink_seen (C.taken console.old) (C.faults console.old) (C.empty_takes console.old))
+        (sink_seen (R.taken report.old) (R.faults report.old) (R.empty_takes report.old)))
+        (seen (desk_seen (D.held desk.new) (D.faults desk.new) (D.large desk.new))
+        (source_seen (S.left input.new) (S.faults input.new))
+        (sink_seen (C.taken console.new) (C.faults console.new) (C.empty_takes console.new))
+        (sink_seen (R.taken report.new) (R.faults report.new) (R.empty_takes report.new))) }
+    ensures counts { SingleCounts result
         (seen (desk_seen (D.held desk.old) (D.faults desk.old) (D.large desk.old))
         (source_seen (S.left input.old) (S.faults input.old))
         (sink_seen (C.taken console.old) (C.faults console.old) (C.empty_takes console.old))

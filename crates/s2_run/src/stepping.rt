@@ -4,7 +4,7 @@ ghost use Rattle.std.specs.Prelude.{◌≡◌, ◌<◌, ◌≤◌, ◌+◌, ◌^
 ghost use Rattle.s2_machine.specs.MachineRun.{bytes_of};
 ghost use Rattle.s2_triplex.specs.R2000Triplex.{r2000_triplex};
 ghost use Rattle.s2_triplex.specs.TriplexState.{TriplexState};
-ghost use Rattle.s2_triplex.specs.TriplexSteps.{TriplexStep, clock_tick, script_act, step_answer, next_after_step};
+ghost use Rattle.s2_triplex.specs.TriplexSteps.{TriplexStep, script_act, step_answer, next_after_step};
 ghost use Rattle.s2_script.specs.ScriptLines.{IsProperEntry};
 ghost use Rattle.s2_script.specs.declared.entry.Entry.{Entry};
 ghost use Rattle.s2_run.specs.declared.limits.TheConstants.{TICK_LIMIT};
@@ -92,34 +92,6 @@ fn take_answer<C: Sink, R: Sink>(
     }
 }
 
-/// Takes one tick, with what it writes.
-fn take_tick<C: Sink, R: Sink>(
-    plant: &mut Plant,
-    mask: u8,
-    line: u64,
-    written: &mut u64,
-    console: &mut C,
-    report: &mut R,
-) -> Result<Option<End>, Failed>
-    requires running { plant.old.halt ≡ None }
-    requires mask { mask < 8 }
-    requires ticks { plant.old.ticks < TICK_LIMIT }
-    requires count { written.old < 2 ^ 62 }
-    ensures ran { IfOk result (λ end. HasRun (step_run line plant.old (clock_tick mask)) end plant.new written.old written.new
-        (taken (C.taken console.old) (R.taken report.old)) (taken (C.taken console.new) (R.taken report.new))) }
-    ensures cut { OnErr result (CutAtStage (step_run line plant.old (clock_tick mask)).stages plant.new
-        (taken (C.taken console.old) (R.taken report.old)) (taken (C.taken console.new) (R.taken report.new))) }
-    ensures added { written.new ≤ written.old + 1 }
-    ensures cause { WriteCause result
-        (sink_seen (C.taken console.old) (C.faults console.old) (C.empty_takes console.old))
-        (sink_seen (C.taken console.new) (C.faults console.new) (C.empty_takes console.new))
-        (sink_seen (R.taken report.old) (R.faults report.old) (R.empty_takes report.old))
-        (sink_seen (R.taken report.new) (R.faults report.new) (R.empty_takes report.new)) }
-{
-    let answer = plant.step_tick(mask);
-    take_answer(plant, answer, line, written, console, report)
-}
-
 /// Takes one act, with what it writes.
 pub fn take_act<C: Sink, R: Sink>(
     plant: &mut Plant,
@@ -174,8 +146,11 @@ pub fn take_ticks<C: Sink, R: Sink>(
         (sink_seen (R.taken report.old) (R.faults report.old) (R.empty_takes report.old))
         (sink_seen (R.taken report.new) (R.faults report.new) (R.empty_takes report.new)) }
 {
-    for _ in 0..n {
-        match take_tick(plant, mask, line, written, console, report) {
+    let mut left = n;
+    while left > 0 {
+        let run = plant.run_ticks(mask, left);
+        left -= run.before + 1;
+        match take_answer(plant, run.last, line, written, console, report) {
             Ok(None) => {}
             Ok(Some(end)) => return Ok(Some(end)),
             Err(Failed) => return Err(Failed),

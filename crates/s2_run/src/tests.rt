@@ -1,5 +1,6 @@
 //! The worked runs, over objects in memory.
 
+mod private_area;
 mod scripts;
 mod workloads;
 
@@ -377,6 +378,9 @@ fn a_script_is_checked_to_its_first_bad_line(rt: HostRuntime) -> Result<(), Fail
         (b"t 7 0\n", 1, 5, b"bad 1 5\n"),
         (b"\ntick\nt 7 5\r\nwrong\n", 3, 6, b"bad 3 6\n"),
         (b"tick\n\nrevive", 3, 7, b"bad 3 7\n"),
+        (b"version 2 63\n", 1, 13, b"bad 1 13\n"),
+        (b"version 2 4097\n", 1, 14, b"bad 1 14\n"),
+        (b"tick\nversion 2 64\n", 2, 1, b"bad 2 1\n"),
     ] {
         expect(
             &rt,

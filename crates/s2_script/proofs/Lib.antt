@@ -1,3 +1,4 @@
 pub mod Joined
 pub mod ScriptTests
 pub mod ProperLines
+pub mod FirstRows

@@ -1,14 +1,14 @@
 -- The lines of a script: a row for each kind of line, and the row of each entry. A new kind of line is a new row here.
-use Rattle.std.specs.Prelude.{ℕ, ◌-◌, ◌^◌, List, [], ◌∷◌, codes, ◌==◌, slice_index, if◌then◌else◌}
+use Rattle.std.specs.Prelude.{ℕ, ◌-◌, ◌^◌, List, [], ◌∷◌, codes, ◌==◌, if◌then◌else◌}
 use Rattle.s2_base.specs.declared.map.TheConstants.{LOCAL_WORDS, GLOBAL_WORDS}
 use Rattle.s2_ports.specs.declared.requests.Kind.{Kind}
 use Rattle.s2_ports.specs.declared.requests.Kind.TheVariants.{Load, Store, Sync}
 use Rattle.s2_ports.specs.declared.requests.Posted.{Posted}
-use Rattle.s2_ports.specs.declared.events.Event.TheVariants.{Tick, Key}
+use Rattle.s2_ports.specs.declared.events.Event.TheVariants.{Tick, Key, Private}
 use Rattle.s2_ports.specs.declared.events.BoardFault.TheVariants.{Dead, Flip}
-use Rattle.s2_text.specs.LineGrammar.{number, hex, letter, Part, word, field, space, Fits, spelling}
+use Rattle.s2_text.specs.LineGrammar.{number, hex, letter, Part, word, field, space, Fits, spelling, nums, num_at}
 use Rattle.s2_text.specs.LineTables.{LineRow}
-use Rattle.s2_script.specs.declared.entry.Act.TheVariants.{Event as Happens, Poke, PokeLocal, Drive, Mute, Remove, Revive, Board}
+use Rattle.s2_script.specs.declared.entry.Act.TheVariants.{Event as Happens, Poke, PokeLocal, Drive, Mute, Remove, Revive, Board, Mend}
 use Rattle.s2_script.specs.declared.entry.Entry.{Entry}
 use Rattle.s2_script.specs.declared.entry.Entry.TheVariants.{Ticks, One}
 use Rattle.s2_script.specs.declared.ranges.TheConstants.{PROCESSORS, BOARDS, SAVED_WORDS, TICK_MASKS, BYTE_MASKS, WORD_BITS}
@@ -47,7 +47,7 @@ kind_of b = if b == 108 then Load else (if b == 115 then Store else Sync)
 abbrev pub ticks_row : LineRow Entry
 ticks_row = record {
   form = word (codes "t ") ∷ field (number 0 (TICK_MASKS - 1)) ∷ space ∷ field (number 1 (2 ^ 64 - 1)) ∷ [];
-  says = λ v. Ticks (slice_index v 0) (slice_index v 1);
+  says = λ v. Ticks (num_at v 0) (num_at v 1);
 }
 
 -- tick
@@ -56,20 +56,20 @@ tick_row = record { form = word (codes "tick") ∷ []; says = λ v. One (Happens
 
 -- key HH
 abbrev pub key_row : LineRow Entry
-key_row = record { form = word (codes "key ") ∷ field (hex 2) ∷ []; says = λ v. One (Happens (Key (slice_index v 0))) }
+key_row = record { form = word (codes "key ") ∷ field (hex 2) ∷ []; says = λ v. One (Happens (Key (num_at v 0))) }
 
 -- poke P K V
 abbrev pub poke_row : LineRow Entry
 poke_row = record {
   form = word (codes "poke ") ∷ processor ∷ space ∷ field (number 0 (SAVED_WORDS - 1)) ∷ space ∷ word_value ∷ [];
-  says = λ v. One (Poke (slice_index v 0) (slice_index v 1) (slice_index v 2));
+  says = λ v. One (Poke (num_at v 0) (num_at v 1) (num_at v 2));
 }
 
 -- local P I V
 abbrev pub local_row : LineRow Entry
 local_row = record {
   form = word (codes "local ") ∷ processor ∷ space ∷ field (number 0 (LOCAL_WORDS - 1)) ∷ space ∷ word_value ∷ [];
-  says = λ v. One (PokeLocal (slice_index v 0) (slice_index v 1) (slice_index v 2));
+  says = λ v. One (PokeLocal (num_at v 0) (num_at v 1) (num_at v 2));
 }
 
 -- the request in a line `drive`, of the numbers behind the processor
@@ -82,36 +82,40 @@ abbrev pub drive_row : LineRow Entry
 drive_row = record {
   form = word (codes "drive ") ∷ processor ∷ space ∷ field (letter kind_letters) ∷ space ∷ word_value ∷ space ∷ word_value
       ∷ space ∷ field (number 0 (BYTE_MASKS - 1)) ∷ space ∷ long ∷ space ∷ long ∷ [];
-  says = λ v. One (Drive (slice_index v 0) (posted_of (slice_index v 1) (slice_index v 2) (slice_index v 3) (slice_index v 4) (slice_index v 5) (slice_index v 6)));
+  says = λ v. One (Drive (num_at v 0) (posted_of (num_at v 1) (num_at v 2) (num_at v 3) (num_at v 4) (num_at v 5) (num_at v 6)));
 }
 
 -- mute P
 abbrev pub mute_row : LineRow Entry
-mute_row = record { form = word (codes "mute ") ∷ processor ∷ []; says = λ v. One (Mute (slice_index v 0)) }
+mute_row = record { form = word (codes "mute ") ∷ processor ∷ []; says = λ v. One (Mute (num_at v 0)) }
 
 -- remove P
 abbrev pub remove_row : LineRow Entry
-remove_row = record { form = word (codes "remove ") ∷ processor ∷ []; says = λ v. One (Remove (slice_index v 0)) }
+remove_row = record { form = word (codes "remove ") ∷ processor ∷ []; says = λ v. One (Remove (num_at v 0)) }
 
 -- revive P
 abbrev pub revive_row : LineRow Entry
-revive_row = record { form = word (codes "revive ") ∷ processor ∷ []; says = λ v. One (Revive (slice_index v 0)) }
+revive_row = record { form = word (codes "revive ") ∷ processor ∷ []; says = λ v. One (Revive (num_at v 0)) }
 
 -- dead B
 abbrev pub dead_row : LineRow Entry
-dead_row = record { form = word (codes "dead ") ∷ board ∷ []; says = λ v. One (Board (Dead (slice_index v 0))) }
+dead_row = record { form = word (codes "dead ") ∷ board ∷ []; says = λ v. One (Board (Dead (num_at v 0))) }
 
 -- flip B I BIT
 abbrev pub flip_row : LineRow Entry
 flip_row = record {
   form = word (codes "flip ") ∷ board ∷ space ∷ field (number 0 (GLOBAL_WORDS - 1)) ∷ space ∷ field (number 0 (WORD_BITS - 1)) ∷ [];
-  says = λ v. One (Board (Flip (slice_index v 0) (slice_index v 1) (slice_index v 2)));
+  says = λ v. One (Board (Flip (num_at v 0) (num_at v 1) (num_at v 2)));
 }
+
+-- mend B
+abbrev pub mend_row : LineRow Entry
+mend_row = record { form = word (codes "mend ") ∷ board ∷ []; says = λ v. One (Mend (num_at v 0)) }
 
 abbrev pub script_rows : List (LineRow Entry)
 script_rows =
     ticks_row ∷ tick_row ∷ key_row ∷ poke_row ∷ local_row ∷ drive_row ∷ mute_row ∷ remove_row ∷ revive_row ∷ dead_row
-    ∷ flip_row ∷ []
+    ∷ flip_row ∷ mend_row ∷ []
 
 -- ---- the one line of an entry
 
@@ -120,6 +124,7 @@ abbrev pub form_of : Entry → List Part
 form_of (Ticks m n) = ticks_row.form
 form_of (One (Happens Tick)) = tick_row.form
 form_of (One (Happens (Key b))) = key_row.form
+form_of (One (Happens (Private a b c))) = tick_row.form
 form_of (One (Poke p k v)) = poke_row.form
 form_of (One (PokeLocal p i v)) = local_row.form
 form_of (One (Drive p posted)) = drive_row.form
@@ -128,12 +133,14 @@ form_of (One (Remove p)) = remove_row.form
 form_of (One (Revive p)) = revive_row.form
 form_of (One (Board (Dead b))) = dead_row.form
 form_of (One (Board (Flip b i bit))) = flip_row.form
+form_of (One (Mend b)) = mend_row.form
 
 -- the numbers in it
 abbrev pub numbers_of : Entry → List ℕ
 numbers_of (Ticks m n) = m ∷ n ∷ []
 numbers_of (One (Happens Tick)) = []
 numbers_of (One (Happens (Key b))) = b ∷ []
+numbers_of (One (Happens (Private a b c))) = a ∷ b ∷ c ∷ []
 numbers_of (One (Poke p k v)) = p ∷ k ∷ v ∷ []
 numbers_of (One (PokeLocal p i v)) = p ∷ i ∷ v ∷ []
 numbers_of (One (Drive p posted)) =
@@ -143,11 +150,13 @@ numbers_of (One (Remove p)) = p ∷ []
 numbers_of (One (Revive p)) = p ∷ []
 numbers_of (One (Board (Dead b))) = b ∷ []
 numbers_of (One (Board (Flip b i bit))) = b ∷ i ∷ bit ∷ []
+numbers_of (One (Mend b)) = b ∷ []
 
--- each number of the entry is in the range of its field
+-- each number of the entry is in the range of its field. Private values come from the machine alone: no line has
+-- place for them.
 abbrev pub IsProperEntry : Entry → Type 0
-IsProperEntry e = Fits (form_of e) (numbers_of e)
+IsProperEntry e = Fits (form_of e) (nums (numbers_of e))
 
 -- its text
 abbrev pub entry_text : Entry → List ℕ
-entry_text e = spelling (form_of e) (numbers_of e)
+entry_text e = spelling (form_of e) (nums (numbers_of e))

@@ -21,6 +21,8 @@ pub enum Act {
     Revive { p: u8 },
     /// A memory board has a fault.
     Board(BoardFault),
+    /// The mending of a memory board begins, where it is out and none mends.
+    Mend { board: u8 },
 }
 
 /// What a line of a script says.
@@ -31,4 +33,13 @@ pub enum Entry {
     Ticks { mask: u8, n: u64 },
     /// One act.
     One(Act),
+}
+
+/// What the first line of a script says: what any line may say, or how long a frame is.
+#[derive(Debug, Clone, Copy, PartialEq, Eq)]
+pub enum First {
+    /// A frame has so many run cycles, from 64 to 4,096. It is no entry, and runs no step.
+    Frame(u16),
+    /// An entry, or `None` for an empty line or a comment.
+    Entry(Option<Entry>),
 }

@@ -9,9 +9,9 @@ mod reading;
 mod tests;
 mod writing;
 
-pub use entry::{Act, Entry};
+pub use entry::{Act, Entry, First};
 pub use properness::proper;
 pub use ranges::{BOARDS, PROCESSORS, SAVED_WORDS};
-pub use reading::read_entry;
+pub use reading::{read_entry, read_first};
 pub use s2_text::BadLine;
 pub use writing::put_entry;

@@ -8,7 +8,7 @@ ghost use Rattle.s2_script.specs.ScriptLines.{IsProperEntry};
 use crate::entry::{Act, Entry};
 use crate::ranges::{BOARDS, BYTE_MASKS, PROCESSORS, SAVED_WORDS, TICK_MASKS, WORD_BITS};
 use s2_base::{GLOBAL_WORDS, LOCAL_WORDS};
-use s2_ports::BoardFault;
+use s2_ports::{BoardFault, Event};
 
 /// Whether every number of an entry is in the range that its line has.
 pub fn proper(e: &Entry) -> bool
@@ -25,7 +25,7 @@ fn proper_act(act: Act) -> bool
     ensures { IsTrue result ↔ IsProperEntry (Entry.One act) }
 {
     match act {
-        Act::Event(_) => true,
+        Act::Event(event) => proper_event(event),
         Act::Poke { p, k, v: _ } => p < PROCESSORS && k < SAVED_WORDS,
         Act::PokeLocal { p, i, v: _ } => p < PROCESSORS && i < LOCAL_WORDS,
         Act::Drive { p, posted } => p < PROCESSORS && posted.request.mask < BYTE_MASKS,
@@ -33,6 +33,18 @@ fn proper_act(act: Act) -> bool
         Act::Remove { p } => p < PROCESSORS,
         Act::Revive { p } => p < PROCESSORS,
         Act::Board(fault) => proper_fault(fault),
+        Act::Mend { board } => board < BOARDS,
+    }
+}
+
+/// Whether a line can say an event: it comes from outside.
+fn proper_event(event: Event) -> bool
+    ensures { IsTrue result ↔ IsProperEntry (Entry.One (Act.Event event)) }
+{
+    match event {
+        Event::Tick => true,
+        Event::Key(_) => true,
+        Event::Private { a: _, b: _, c: _ } => false,
     }
 }
 

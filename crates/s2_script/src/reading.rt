@@ -1,14 +1,17 @@
 //! The reader of a script's lines: a function for each row of the table.
 
-ghost use Rattle.std.specs.Prelude.{◌≡◌, Ok, Some, None};
+ghost use Rattle.std.specs.Prelude.{ℕ, ◌≡◌, Ok, Some, None};
 ghost use Rattle.s2_text.specs.LineReading.{IsReading, letter_reading, ReadsForm, ReadsRows};
 ghost use Rattle.s2_text.specs.LineTables.{ReadsLine, SaysIn, IsRemark};
 ghost use Rattle.s2_script.specs.declared.entry.Entry.{Entry};
-ghost use Rattle.s2_script.specs.ScriptLines.{letter_of, kind_letters, ticks_row, tick_row, key_row, poke_row, local_row, drive_row, mute_row, remove_row, revive_row, dead_row, flip_row, script_rows};
+ghost use Rattle.s2_script.specs.declared.entry.First.{First};
+ghost use Rattle.s2_script.specs.FirstLines.{first_answer, first_found, first_rows, ReadsFirst, SaysFrame, version_row};
+ghost use Rattle.s2_script.specs.ScriptLines.{letter_of, kind_letters, ticks_row, tick_row, key_row, poke_row, local_row, drive_row, mute_row, remove_row, revive_row, dead_row, flip_row, script_rows, mend_row};
 
-use crate::entry::{Act, Entry};
+use crate::entry::{Act, Entry, First};
 use crate::ranges::{BOARDS, BYTE_MASKS, PROCESSORS, SAVED_WORDS, TICK_MASKS, WORD_BITS};
 use s2_base::{GLOBAL_WORDS, LOCAL_WORDS};
+use s2_clock::{LONGEST_FRAME, SHORTEST_FRAME};
 use s2_ports::{BoardFault, Event, Kind, Posted, Request};
 use s2_text::{
     BadLine, HELD_BYTES, Stop, below, either, end, front, hex, number, space, with_remarks, word,
@@ -175,11 +178,22 @@ fn flip(line: &[u8]) -> Result<Entry, Stop>
     Ok(Entry::One(Act::Board(BoardFault::Flip { board, index, bit })))
 }
 
+/// Reads `mend B`.
+fn mend(line: &[u8]) -> Result<Entry, Stop>
+    ensures { ReadsForm mend_row line.now result }
+{
+    let rest = word(line, b"mend ")?;
+    let (board, rest) = below(rest, BOARDS)?;
+    end(rest)?;
+    Ok(Entry::One(Act::Mend { board }))
+}
+
 /// Reads a line by each row of the table.
 fn table_line(line: &[u8]) -> Result<Entry, Stop>
     ensures { ReadsRows script_rows line.now result }
 {
-    let found = flip(line);
+    let found = mend(line);
+    let found = either(flip(line), found);
     let found = either(dead(line), found);
     let found = either(revive(line), found);
     let found = either(remove(line), found);
@@ -204,4 +218,56 @@ pub fn read_entry(line: &[u8]) -> Result<Option<Entry>, BadLine>
 {
     let seen = front(line, HELD_BYTES);
     with_remarks(seen, table_line(seen))
+}
+
+/// Reads `version 2 FRAME`.
+fn version(line: &[u8]) -> Result<First, Stop>
+    ensures { ReadsForm version_row line.now result }
+{
+    let rest = word(line, b"version 2 ")?;
+    let (frame, rest) = number(rest, SHORTEST_FRAME, LONGEST_FRAME)?;
+    end(rest)?;
+    Ok(First::Frame(frame as u16))
+}
+
+/// What was read of the table, on the first line.
+fn on_first(found: Result<Entry, Stop>) -> Result<First, Stop>
+    ensures { result ≡ first_found found }
+{
+    match found {
+        Ok(entry) => Ok(First::Entry(Some(entry))),
+        Err(stop) => Err(stop),
+    }
+}
+
+/// What was read of the rows of the first line and of remarks, as an answer.
+fn answer(read: Result<Option<First>, BadLine>) -> Result<First, BadLine>
+    ensures { result ≡ first_answer read }
+{
+    match read {
+        Ok(Some(first)) => Ok(first),
+        Ok(None) => Ok(First::Entry(None)),
+        Err(bad) => Err(bad),
+    }
+}
+
+/// Reads a line by each row of the table, or as a version line.
+fn first_line(line: &[u8]) -> Result<First, Stop>
+    ensures { ReadsRows first_rows line.now result }
+{
+    either(version(line), on_first(table_line(line)))
+}
+
+/// Reads the first line of a script, without its line feed: a version line, or a line as [`read_entry`] reads it.
+///
+/// `BadLine` exactly where the line is neither, with the column after its longest prefix that is a prefix of one
+/// or the other.
+pub fn read_first(line: &[u8]) -> Result<First, BadLine>
+    ensures read { ReadsFirst line.now result }
+    ensures frame { (frame : ℕ) → SaysFrame frame line.now → result ≡ Ok (First.Frame frame) }
+    ensures entry { (e : Entry) → SaysIn script_rows e line.now → result ≡ Ok (First.Entry (Some e)) }
+    ensures remark { IsRemark line.now → result ≡ Ok (First.Entry None) }
+{
+    let held = front(line, HELD_BYTES);
+    answer(with_remarks(held, first_line(held)))
 }

@@ -1,7 +1,7 @@
 //! Lines of scripts with what they say, as written by hand from the table of `docs/FORMATS.md`, and columns
 //! counted by hand.
 
-use crate::{Act, BadLine, Entry, proper, put_entry, read_entry};
+use crate::{Act, BadLine, Entry, First, proper, put_entry, read_entry, read_first};
 use s2_ports::{BoardFault, Event, Kind, Posted, Request};
 
 /// The entry of `drive 2 s 00000000 00000000 15 0 0`.
@@ -21,7 +21,7 @@ const DRIVE: Entry = Entry::One(Act::Drive {
 
 /// Each kind of line, with the greatest numbers of its fields.
 #[rattlefmt::skip]
-static ENTRIES: [(&[u8], Entry); 19] = [
+static ENTRIES: [(&[u8], Entry); 20] = [
     (b"t 7 18446744073709551615", Entry::Ticks { mask: 7, n: 18446744073709551615 }),
     (b"t 0 1", Entry::Ticks { mask: 0, n: 1 }),
     (b"tick", Entry::One(Act::Event(Event::Tick))),
@@ -52,6 +52,7 @@ static ENTRIES: [(&[u8], Entry); 19] = [
     (b"dead 1", Entry::One(Act::Board(BoardFault::Dead { board: 1 }))),
     (b"flip 1 262143 31", Entry::One(Act::Board(BoardFault::Flip { board: 1, index: 262143, bit: 31 }))),
     (b"flip 0 0 0", Entry::One(Act::Board(BoardFault::Flip { board: 0, index: 0, bit: 0 }))),
+    (b"mend 1", Entry::One(Act::Mend { board: 1 })),
     (b"poke 0 0 00000000", Entry::One(Act::Poke { p: 0, k: 0, v: 0 })),
 ];
 
@@ -80,7 +81,7 @@ fn empty_lines_and_comments_say_nothing(rt: HostRuntime) {
 
 /// Lines that are bad, and their columns.
 #[rattlefmt::skip]
-static BAD: [(&[u8], u32); 45] = [
+static BAD: [(&[u8], u32); 46] = [
     // The first number above each range: as many of its digits count as still are in the range.
     (b"t 8 1", 3),
     (b"t 7 0", 5),
@@ -95,6 +96,7 @@ static BAD: [(&[u8], u32); 45] = [
     (b"remove 3", 8),
     (b"revive 3", 8),
     (b"dead 2", 6),
+    (b"mend 2", 6),
     (b"flip 2 0 0", 6),
     (b"flip 0 262144 0", 13),
     (b"flip 0 0 32", 11),
@@ -187,5 +189,30 @@ fn an_entry_with_a_number_above_its_range_is_not_proper(rt: HostRuntime) {
         })),
     ] {
         assert!(rt; !proper(&entry));
+    }
+}
+
+/// First lines that are no version line, with the column.
+const BAD_FIRST_LINES: [(&[u8], u32); 8] = [
+    (b"version 2 63", 13),
+    (b"version 2 4097", 14),
+    (b"version 2 064", 11),
+    (b"version 2", 10),
+    (b"version 1 64", 9),
+    (b"version 2 64 ", 13),
+    (b"v", 2),
+    (b"tickk", 5),
+];
+
+#[test]
+fn the_first_line_may_choose_the_frame(rt: HostRuntime) {
+    assert_eq!(rt; read_first(b"version 2 64"), Ok(First::Frame(64)));
+    assert_eq!(rt; read_first(b"version 2 4096"), Ok(First::Frame(4096)));
+    let tick = Entry::One(Act::Event(Event::Tick));
+    assert_eq!(rt; read_first(b"tick"), Ok(First::Entry(Some(tick))));
+    assert_eq!(rt; read_first(b"# version 2 64"), Ok(First::Entry(None)));
+    assert_eq!(rt; read_entry(b"version 2 64"), Err(BadLine { column: 1 }));
+    for (line, column) in &BAD_FIRST_LINES {
+        assert_eq!(rt; read_first(line), Err(BadLine { column: *column }));
     }
 }

@@ -47,6 +47,7 @@ fn put_act(act: Act) -> Text
         Act::Remove { p } => and_dec(start(b"remove"), p as u64),
         Act::Revive { p } => and_dec(start(b"revive"), p as u64),
         Act::Board(fault) => put_fault(fault),
+        Act::Mend { board } => and_dec(start(b"mend"), board as u64),
     }
 }
 
@@ -56,6 +57,8 @@ fn put_event(event: Event) -> Text
 {
     match event {
         Event::Tick => start(b"tick"),
+        // no line has private values: `proper` is false for them
+        Event::Private { a: _, b: _, c: _ } => start(b"tick"),
         Event::Key(byte) => and_hex(start(b"key"), byte as u32, 2),
     }
 }

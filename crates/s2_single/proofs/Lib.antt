@@ -1,1 +1,3 @@
 mod SingleCycles
+pub mod ProgramCycles
+pub mod DueDeliveries

@@ -1,7 +1,7 @@
 //! The access of global memory or a device that a cycle asks for.
 
 ghost use Rattle.std.specs.Prelude.{◌≡◌, ◌<◌, ◌≤◌, ℕ, List, None, length};
-ghost use Rattle.s2_base.specs.declared.devices.TheConstants.{HALT};
+ghost use Rattle.s2_base.specs.declared.devices.TheConstants.{PRIV2};
 ghost use Rattle.s2_base.specs.declared.map.TheConstants.{GLOBAL_WORDS};
 ghost use Rattle.s2_device.specs.DeviceState.{Device};
 ghost use Rattle.s2_machine.specs.OutsideAccess.{access_of_request, access_at};
@@ -44,7 +44,7 @@ fn access_global(global: &mut FlatStore, i: u32, request: &Request) -> Effect
 
 /// The access of device register `k`.
 fn access_device(board: &mut Board, k: u32, request: &Request) -> Effect
-    requires { k ≤ HALT }
+    requires { k ≤ PRIV2 }
     ensures { (global : List ℕ)
         → access_at global board.old request.now.kind request.now.word request.now.mask (Place.Device k)
         ≡ record { word = result.word; global = global; device = board.new; out = result.out; halt = result.halt } }

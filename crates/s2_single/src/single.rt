@@ -1,24 +1,28 @@
 //! The machine of one processor.
 
-ghost use Rattle.std.specs.Prelude.{◌≡◌, ◌≢◌, ◌<◌, ◌-◌, ◌++◌, ℕ, List, None, IfOk, length};
+ghost use Rattle.std.specs.Prelude.{◌≡◌, ◌≢◌, ◌<◌, ◌-◌, ◌++◌, ℕ, List, None, IfOk, length, slice_index};
 ghost use Rattle.s2_base.specs.declared.map.TheConstants.{LOCAL_WORDS, GLOBAL_WORDS};
 ghost use Rattle.s2_machine.specs.Machine.{started};
-ghost use Rattle.s2_machine.specs.LocalWork.{ask_of};
+ghost use Rattle.s2_machine.specs.InstructionRows.{step_of};
+ghost use Rattle.s2_machine.specs.LocalWork.{after_finish, ask_of};
+ghost use Rattle.s2_machine.specs.StepRanges.{HasMask, IsSound};
 ghost use Rattle.s2_machine.specs.WriteBack.{with_lines};
 ghost use Rattle.s2_machine.specs.Cores.{core_cycle_by};
 ghost use Rattle.s2_machine.specs.R2000.{r2000};
 ghost use Rattle.s2_machine.specs.Cycle.{cycle};
 ghost use Rattle.s2_machine.specs.MachineRun.{core_cycles, after_cycle, after_delivery, bytes_of};
+ghost use Rattle.s2_ports.specs.Events.{IsEventInRange};
 ghost use Rattle.s2_single.specs.SingleMachine.{after_event, burst_cycles, cycle_effect, in_run, machine_of};
 
 use crate::outside_access::access;
 use s2_base::Memory;
-use s2_core::{Ask, ask, finish, try_turn};
+use s2_core::{Ask, ask_of as core_ask_of, asking_step, finish_step, try_turn};
 use s2_cpu::Cpu;
 use s2_device::{Board, Effect};
 use s2_elf::Image;
+use s2_machine::Step;
 use s2_ports::{Event, Reply, Request};
-use s2_store::FlatStore;
+use s2_store::{FlatStore, Store};
 use std::alloc::Global;
 use std::marker::Model;
 
@@ -68,6 +72,26 @@ fn set_lines(cpu: &mut Cpu, lines: u8)
     cpu.lines = lines;
 }
 
+/// What the next cycle asks, whose step is known.
+fn request_of(cpu: &Cpu, local: &FlatStore, step: Step) -> Ask
+    requires known { step ≡ step_of cpu.now local.now }
+    requires sound { IsSound step }
+    ensures ask { result ≡ ask_of cpu.now local.now }
+    ensures mask { HasMask result }
+{
+    core_ask_of(cpu, step)
+}
+
+/// The end of the next cycle, whose step is known and asks for an access.
+fn finish_by(cpu: &mut Cpu, local: &FlatStore, step: Step, reply: Reply)
+    requires known { step ≡ step_of cpu.old local.now }
+    requires sound { IsSound step }
+    requires lines { reply.lines < 4 }
+    ensures { cpu.new ≡ after_finish cpu.old local.now reply.word reply.lines }
+{
+    finish_step(cpu, step, reply);
+}
+
 /// The end of a cycle that asked for an access: the access, and then the processor takes the word that it
 /// read and the lines of the devices. It gives the console byte of the cycle.
 fn finish_outside(
@@ -76,8 +100,11 @@ fn finish_outside(
     global: &mut FlatStore,
     board: &mut Board,
     halt: &mut Option<u32>,
+    step: Step,
     request: Request,
 ) -> Option<u8>
+    requires known { step ≡ step_of cpu.old local.old }
+    requires sound { IsSound step }
     requires local { length local.old ≡ LOCAL_WORDS }
     requires global { length global.old ≡ GLOBAL_WORDS }
     requires asked { ask_of cpu.old local.old ≡ Ask.Outside request }
@@ -92,7 +119,7 @@ fn finish_outside(
         word: effect.word,
         lines: board.lines(),
     };
-    finish(cpu, local, reply);
+    finish_by(cpu, local, step, reply);
     *halt = effect.halt;
     effect.out
 }
@@ -115,9 +142,10 @@ fn cycle_outside(
     ensures local { length local.new ≡ LOCAL_WORDS }
     ensures global { length global.new ≡ GLOBAL_WORDS }
 {
-    match ask(cpu, local) {
+    let step = asking_step(cpu, local);
+    match request_of(cpu, local, step) {
         Ask::Local => unreachable!(),
-        Ask::Outside(request) => finish_outside(cpu, local, global, board, halt, request),
+        Ask::Outside(request) => finish_outside(cpu, local, global, board, halt, step, request),
     }
 }
 
@@ -206,7 +234,9 @@ impl Single {
 
     /// An event acts on the devices at the run count as it is, before the next cycle, and the processor sees
     /// their interrupt lines. It acts after a halt too; a run delivers nothing then.
+    /// Private values are at most `NO_VALUE` each.
     pub fn deliver(&mut self, event: Event)
+        requires { IsEventInRange event }
         ensures machine { self.new ≡ after_event self.old event }
         ensures run { (bytes : List ℕ) → self.old.halt ≡ None
             → after_delivery (in_run self.old bytes) event ≡ in_run self.new bytes }
@@ -257,6 +287,32 @@ impl Single {
             &mut self.halt,
             limit,
         )
+    }
+
+    /// The machine becomes that of another. It takes no memory.
+    pub fn copy_from(&mut self, other: &Single)
+        ensures { self.new ≡ other.now }
+    {
+        self.cpu.copy_from(&other.cpu);
+        self.local.copy_from(&other.local);
+        self.global.copy_from(&other.global);
+        self.board.copy_from(&other.board);
+        self.halt = other.halt;
+    }
+
+    /// The processor.
+    pub fn cpu(&self) -> &Cpu
+        ensures { result.now ≡ self.now.cpu }
+    {
+        &self.cpu
+    }
+
+    /// Word `i`, below `LOCAL_WORDS`, of the local list: local memory, and then the boot store.
+    pub fn local_word(&self, i: u32) -> u32
+        requires { i < LOCAL_WORDS }
+        ensures { result ≡ slice_index self.now.local i }
+    {
+        self.local.word(i)
     }
 
     /// How many cycles were run, modulo 2^64.

@@ -36,6 +36,16 @@ impl FlatStore {
             Err(_) => Err(Memory),
         }
     }
+
+    /// The words become those of a store of as many words. It takes no memory.
+    pub fn copy_from(&mut self, other: &FlatStore)
+        requires { length self.old ≡ length other.now }
+        ensures { self.new ≡ other.now }
+    {
+        self.list
+            .as_mut_slice()
+            .copy_from_slice(other.list.as_slice());
+    }
 }
 
 impl Store for FlatStore {

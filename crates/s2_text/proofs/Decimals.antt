@@ -5,7 +5,8 @@ use Rattle.std.specs.Fmt.{decimal}
 use Rattle.std.proofs.lemmas.Fmt.{decimal_digit, decimal_step, decimal_by_steps, length-decimal-le}
 use Rattle.std.proofs.lemmas.Bool.Decides.{nat_tests}
 use Rattle.std.proofs.lemmas.List.{append-nil, length-append}
-use Rattle.s2_text.specs.LineReading.{is_digit, goes_on, digits_from}
+use Rattle.s2_text.specs.LineGrammar.{is_digit, is_name_byte}
+use Rattle.s2_text.specs.LineReading.{goes_on, digits_from}
 use Rattle.s2_text.proofs.LiteralWords.{cases}
 
 abbrev pub AreDigits : List ℕ → Type 0
@@ -87,10 +88,10 @@ decimal_digits n one fits =
     })
     n fits one
 
--- what comes next is no digit
+-- what comes next is neither a digit nor a small letter
 abbrev pub plain : List ℕ → Bool
 plain [] = true
-plain (b ∷ bs) = not (is_digit b)
+plain (b ∷ bs) = not (is_name_byte b)
 
 pub digits_again : (high v : ℕ) (ds rest : List ℕ) → AreDigits ds → value_from v ds ≤ high → plain rest ≡ true → digits_from high v (ds ++ rest) ≡ (value_from v ds, rest)
 digits_again high v [] [] digits most end = refl

@@ -9,3 +9,5 @@ pub mod TableRows
 pub mod DisjointForms
 pub mod WholeNumbers
 pub mod ShortLines
+pub mod PlainTexts
+pub mod NumberForms

@@ -5,7 +5,7 @@ use Rattle.std.proofs.lemmas.Bool.Decides.{nat_tests}
 use Rattle.std.proofs.lemmas.List.{length-take, length-append, take_all}
 use Rattle.s2_text.specs.declared.stops.Stop.{Stop}
 use Rattle.s2_text.specs.declared.stops.BadLine.{BadLine}
-use Rattle.s2_text.specs.LineGrammar.{Part, word, field, spelling, IsTextOfOne, Begins, Reaches}
+use Rattle.s2_text.specs.LineGrammar.{Value, num, name, label, is_small_letter, Part, word, field, Fits, spelling, IsTextOfOne, Begins, Reaches}
 use Rattle.s2_text.specs.LineTables.{LineRow, forms, SaysIn, ReadsRow, IsRemark, IsLineOf, ReadsLine}
 use Rattle.s2_text.specs.LineReading.{remark_reading, ReadsRows, AnswersRow, AnswersLine}
 use Rattle.s2_text.proofs.FormTests.{form_limit, is_readable, are_short, is_no_remark, are_no_remarks}
@@ -154,15 +154,19 @@ uncut_row rows line seen (Err bad) ok is h =
 
 -- ---- what is spelled as in the table is read, and a remark is read as one
 
-form_other : (ps : List Part) (vs : List ℕ) → is_no_remark ps ≡ true → IsRemark (spelling ps vs) → ⊥
-form_other [] vs other remark = absurd cc
-form_other (word [] ∷ ps) vs other remark = absurd cc
-form_other (word (w ∷ ws) ∷ ps) vs other remark = (let e = remark.0 in grind (arith, nat_tests))
-form_other (field f ∷ ps) vs other remark = absurd cc
+form_other : (ps : List Part) (vs : List Value) → is_no_remark ps ≡ true → Fits ps vs → IsRemark (spelling ps vs) → ⊥
+form_other [] vs other fits remark = absurd cc
+form_other (word [] ∷ ps) vs other fits remark = absurd cc
+form_other (word (w ∷ ws) ∷ ps) vs other fits remark = (let e = remark.0 in grind (arith, nat_tests))
+form_other (field label ∷ ps) [] other fits remark = absurd fits
+form_other (field label ∷ ps) (num v ∷ vs) other fits remark = absurd fits.0
+form_other (field label ∷ ps) (name [] ∷ vs) other fits remark = (let e = fits.0 in absurd cc)
+form_other (field label ∷ ps) (name (b ∷ l) ∷ vs) other fits remark = (let e = fits.0 in let is : is_small_letter b ≡ true = grind arith in let h = remark.0 in grind (arith, nat_tests))
+form_other (field f ∷ ps) vs other fits remark = absurd cc
 
 says_other : {A : Type 0} (rows : List (LineRow A)) (x : A) (line : List ℕ) → are_no_remarks (forms rows) ≡ true → SaysIn rows x line → IsRemark line → ⊥
 says_other [] x line ok says remark = says
-says_other (row ∷ rows) x line ok (inl s) remark = form_other row.form s.0 (grind arith) (subst IsRemark s.2 remark)
+says_other (row ∷ rows) x line ok (inl s) remark = form_other row.form s.0 (grind arith) s.1 (subst IsRemark s.2 remark)
 says_other (row ∷ rows) x line ok (inr s) remark = says_other rows x line (grind arith) s remark
 
 pub line_again : {A : Type 0} (rows : List (LineRow A)) (line : List ℕ) (r : Result (Option A) BadLine) → are_disjoint (forms rows) ≡ true → are_no_remarks (forms rows) ≡ true → ReadsLine rows line r → (x : A) → SaysIn rows x line → r ≡ Ok (Some x)

@@ -1,7 +1,7 @@
 -- Tables: from the readers of single rows to the reader of the table.
 use Rattle.std.proofs.Common.{◌≡◌, ℕ, ◌-◌, ◌++◌, true, List, [], ◌∷◌, length, Result, Ok, Err, refl, ap, ◌∙◌, ◌⊎◌, inl, inr}
 use Rattle.s2_text.specs.declared.stops.Stop.{Stop}
-use Rattle.s2_text.specs.LineGrammar.{Part, IsText, IsTextOfOne}
+use Rattle.s2_text.specs.LineGrammar.{Value, Part, IsText, IsTextOfOne}
 use Rattle.s2_text.specs.LineReading.{form_reading, IsReading, answer_of, ReadsForm, IsExact, further_of, ReadsRows}
 use Rattle.s2_text.proofs.FormTests.{is_readable}
 use Rattle.s2_text.specs.LineTables.{SaysBy, LineRow, forms, SaysIn}
@@ -11,7 +11,7 @@ weaker : {A : Type 0} (P Q : A → List ℕ → Type 0) (S : List ℕ → Type 0
 weaker P Q S line (Ok x) to h = to x h
 weaker P Q S line (Err stop) to h = h
 
-by_values : {A : Type 0} (says : List ℕ → A) (ps : List Part) (line : List ℕ) (r : Result A Stop) (read : Result (List ℕ) ℕ) → is_readable ps ≡ true → form_reading ps [] line ≡ read → IsReading (λ x. x) r (answer_of says read) → IsExact (SaysBy ps says) (IsText ps) line r
+by_values : {A : Type 0} (says : List Value → A) (ps : List Part) (line : List ℕ) (r : Result A Stop) (read : Result (List Value) ℕ) → is_readable ps ≡ true → form_reading ps [] line ≡ read → IsReading (λ x. x) r (answer_of says read) → IsExact (SaysBy ps says) (IsText ps) line r
 by_values says ps line (Ok x) (Ok vs) ok e gives = (let f = form_found ps line vs ok e in (vs, f.0, f.1, cc))
 by_values says ps line (Ok x) (Err left) ok e gives = absurd cc
 by_values says ps line (Err stop) (Ok vs) ok e gives = absurd cc

@@ -1,9 +1,11 @@
 -- Texts of a form are short, and what stands past the longest doesn't matter.
-use Rattle.std.proofs.Common.{◌≡◌, ℕ, zero, suc, ◌≤◌, true, List, [], ◌∷◌, ◌++◌, length, take, refl, sym, ap, subst, arith, length-append}
+use Rattle.std.proofs.Common.{◌≡◌, ℕ, zero, suc, ◌-◌, ◌<◌, ◌≤◌, true, List, [], ◌∷◌, ◌++◌, length, take, refl, sym, ap, subst, arith, length-append, inl, inr}
 use Rattle.std.proofs.lemmas.List.{length-take, take-take, take_all}
-use Rattle.s2_text.specs.LineGrammar.{Field, number, hex, letter, Part, word, field, field_text, FitsField, Fits, spelling, Begins, Reaches}
+use Rattle.s2_text.specs.LineGrammar.{Value, num, name, Field, number, hex, letter, signed, label, is_name, are_name_bytes, signed_text, Part, word, field, field_text, FitsField, Fits, spelling, Begins, Reaches}
 use Rattle.s2_text.proofs.FormTests.{field_limit, form_limit, is_readable, is_readable_field}
 use Rattle.s2_text.specs.HexText.{hex_text}
+use Rattle.std.specs.Prelude.{nat_lt}
+use Rattle.s2_text.proofs.LiteralWords.{cases}
 use Rattle.s2_text.proofs.Decimals.{digits_few}
 use Rattle.s2_text.proofs.LineFields.{is_range}
 use Rattle.s2_text.proofs.WholeForms.{readable_parts}
@@ -13,12 +15,35 @@ pub hex_long : (n v : ℕ) → length (hex_text n v) ≡ n
 hex_long zero v = refl
 hex_long (suc n) v = ap suc (hex_long n v)
 
-field_short : (f : Field) (v : ℕ) → is_readable_field f ≡ true → FitsField f v → length (field_text f v) ≤ field_limit f
-field_short (number low high) v ok fits = (let r = is_range low high ok in let h = r.fits in let m = fits.1 in digits_few v (omega arith))
-field_short (hex n) v ok fits = omega (arith, hex_long n v)
-field_short (letter allowed) v ok fits = omega arith
+signed_short : (v : ℕ) → v < 65536 → length (signed_text v) ≤ 21
+signed_short v fits =
+    elim (cases (nat_lt v 32768)) [
+      | inl below ↦ (let h = digits_few v (omega arith) in rw below (omega arith))
+      | inr above ↦ (let h = digits_few (65536 - v) (omega arith) in rw above (omega arith))
+    ]
 
-pub spelling_short : (ps : List Part) (vs : List ℕ) → is_readable ps ≡ true → Fits ps vs → length (spelling ps vs) ≤ form_limit ps
+label_short : (n : ℕ) (l : List ℕ) → are_name_bytes n l ≡ true → length l ≤ n
+label_short n [] fits = omega arith
+label_short zero (b ∷ l) fits = absurd cc
+label_short (suc n) (b ∷ l) fits = (let h = label_short n l (grind arith) in omega arith)
+
+name_short : (l : List ℕ) → is_name l ≡ true → length l ≤ 16
+name_short [] fits = omega arith
+name_short (b ∷ l) fits = (let h = label_short 15 l (grind arith) in omega arith)
+
+field_short : (f : Field) (v : Value) → is_readable_field f ≡ true → FitsField f v → length (field_text f v) ≤ field_limit f
+field_short (number low high) (num v) ok fits = (let r = is_range low high ok in let h = r.fits in let m = fits.1 in digits_few v (omega arith))
+field_short (hex n) (num v) ok fits = omega (arith, hex_long n v)
+field_short (letter allowed) (num v) ok fits = omega arith
+field_short signed (num v) ok fits = signed_short v fits
+field_short label (num v) ok fits = absurd fits
+field_short (number low high) (name l) ok fits = absurd fits
+field_short (hex n) (name l) ok fits = absurd fits
+field_short (letter allowed) (name l) ok fits = absurd fits
+field_short signed (name l) ok fits = absurd fits
+field_short label (name l) ok fits = name_short l fits
+
+pub spelling_short : (ps : List Part) (vs : List Value) → is_readable ps ≡ true → Fits ps vs → length (spelling ps vs) ≤ form_limit ps
 spelling_short [] vs ok fits = omega arith
 spelling_short (word w ∷ ps) vs ok fits = (let h = spelling_short ps vs ok fits in omega (arith, length-append w (spelling ps vs)))
 spelling_short (field f ∷ ps) [] ok fits = absurd fits

@@ -1,7 +1,7 @@
 -- From what reading a form says to the sets of texts.
 use Rattle.std.proofs.Common.{◌≡◌, ℕ, suc, ◌+◌, ◌-◌, ◌<◌, ◌≤◌, true, List, [], ◌∷◌, ◌++◌, length, take, Result, Ok, Err, refl, sym, ap, ◌∙◌, subst, append_assoc, arith, ◌⊎◌, inl, inr, length-append}
 use Rattle.std.proofs.Math.Seq.{take-append_seam, take-append-add}
-use Rattle.s2_text.specs.LineGrammar.{Part, Fits, spelling, IsText, Begins, Reaches}
+use Rattle.s2_text.specs.LineGrammar.{Value, Part, Fits, spelling, IsText, Begins, Reaches}
 use Rattle.s2_text.specs.LineReading.{form_reading, further_of, IsExact}
 use Rattle.s2_text.proofs.FormTests.{is_readable}
 use Rattle.s2_text.specs.declared.stops.Stop.{Stop}
@@ -21,17 +21,17 @@ err_is : {A : Type 0} (r : Result A ℕ) (x y : ℕ) → r ≡ Err x → r ≡ E
 err_is r x y p q = cc
 
 -- What was read is a text of the form, with these values.
-pub form_found : (ps : List Part) (line vs : List ℕ) → is_readable ps ≡ true → form_reading ps [] line ≡ Ok vs → Fits ps vs × (line ≡ spelling ps vs)
+pub form_found : (ps : List Part) (line : List ℕ) (vs : List Value) → is_readable ps ≡ true → form_reading ps [] line ≡ Ok vs → Fits ps vs × (line ≡ spelling ps vs)
 form_found ps line vs ok e =
     elim (scans ps [] line ok) [
       | inl t ↦
           let same : t.values ≡ vs = ok_is (form_reading ps [] line) t.values vs t.read e in
-          (subst (λ (x : List ℕ). Fits ps x) same t.fits, t.text ∙ ap (λ (x : List ℕ). spelling ps x) same)
+          (subst (λ (x : List Value). Fits ps x) same t.fits, t.text ∙ ap (λ (x : List Value). spelling ps x) same)
       | inr s ↦ absurd (apart (form_reading ps [] line) vs (length s.back) e s.read)
     ]
 
 -- Texts of the form are read.
-pub form_again : (ps : List Part) (vs : List ℕ) → is_readable ps ≡ true → Fits ps vs → form_reading ps [] (spelling ps vs) ≡ Ok vs
+pub form_again : (ps : List Part) (vs : List Value) → is_readable ps ≡ true → Fits ps vs → form_reading ps [] (spelling ps vs) ≡ Ok vs
 form_again ps vs ok fits = text_again ps vs [] ok fits
 
 -- the front of a line that is longer than front, and what stands at its end
@@ -125,5 +125,5 @@ either_exact Says S T line (Err s) (Err t) a b =
 
 -- ---- one spelling
 
-pub same_numbers : (ps : List Part) (vs ws : List ℕ) → is_readable ps ≡ true → Fits ps vs → Fits ps ws → spelling ps vs ≡ spelling ps ws → vs ≡ ws
+pub same_numbers : (ps : List Part) (vs ws : List Value) → is_readable ps ≡ true → Fits ps vs → Fits ps ws → spelling ps vs ≡ spelling ps ws → vs ≡ ws
 same_numbers ps vs ws ok a b e = ok_is (form_reading ps [] (spelling ps vs)) vs ws (form_again ps vs ok a) (ap (λ (x : List ℕ). form_reading ps [] x) e ∙ form_again ps ws ok b)

@@ -1,9 +1,9 @@
 -- Whole forms: what is read is a text, a text is read, and where reading stops.
 use Rattle.std.proofs.Common.{◌≡◌, ℕ, suc, true, List, [], ◌∷◌, ◌++◌, length, Result, Ok, Err, refl, sym, ap, ◌∙◌, append_assoc, arith, ◌⊎◌, inl, inr}
 use Rattle.std.proofs.lemmas.List.{append-nil}
-use Rattle.s2_text.specs.LineGrammar.{Field, Part, word, field, field_text, Fits, spelling}
+use Rattle.s2_text.specs.LineGrammar.{Value, Field, Part, word, field, field_text, Fits, spelling}
 use Rattle.s2_text.specs.LineReading.{word_reading, field_reading, form_reading}
-use Rattle.s2_text.proofs.FormTests.{is_readable_field, starts_without_digit, is_readable}
+use Rattle.s2_text.proofs.FormTests.{is_readable_field, starts_apart, is_readable}
 use Rattle.s2_text.proofs.LiteralWords.{word_found, word_again, word_stops}
 use Rattle.s2_text.proofs.Decimals.{plain}
 use Rattle.s2_text.proofs.LineFields.{FieldMatch, field_again, field_reads}
@@ -11,20 +11,20 @@ use Rattle.s2_text.proofs.LineFields.{FieldMatch, field_again, field_reads}
 -- the tests of a form
 pub record ReadableParts (f : Field) (ps : List Part) : Type 0 where
   pub here : is_readable_field f ≡ true
-  pub next : starts_without_digit ps ≡ true
+  pub next : starts_apart ps ≡ true
   pub others : is_readable ps ≡ true
 
 pub readable_parts : (f : Field) (ps : List Part) → is_readable (field f ∷ ps) ≡ true → ReadableParts f ps
 readable_parts f ps e = record { here = grind arith; next = grind arith; others = grind arith }
 
-pub spelling_plain : (ps : List Part) (vs : List ℕ) → starts_without_digit ps ≡ true → plain (spelling ps vs) ≡ true
+pub spelling_plain : (ps : List Part) (vs : List Value) → starts_apart ps ≡ true → plain (spelling ps vs) ≡ true
 spelling_plain [] vs e = refl
 spelling_plain (word [] ∷ ps) vs e = absurd cc
 spelling_plain (word (w ∷ ws) ∷ ps) vs e = e
 spelling_plain (field f ∷ ps) vs e = absurd cc
 
 -- a text is read, as its values
-pub text_again : (ps : List Part) (vs done : List ℕ) → is_readable ps ≡ true → Fits ps vs → form_reading ps done (spelling ps vs) ≡ Ok (done ++ vs)
+pub text_again : (ps : List Part) (vs done : List Value) → is_readable ps ≡ true → Fits ps vs → form_reading ps done (spelling ps vs) ≡ Ok (done ++ vs)
 text_again [] [] done ok fits = rw (append-nil done) refl
 text_again [] (v ∷ vs) done ok fits = absurd fits
 text_again (word w ∷ ps) vs done ok fits = rw (word_again w (spelling ps vs)) (text_again ps vs done ok fits)
@@ -35,7 +35,7 @@ text_again (field f ∷ ps) (v ∷ vs) done ok fits =
     (text_again ps vs (done ++ v ∷ []) s.others fits.1 ∙ (rw (append_assoc done (v ∷ []) vs) refl))
 
 -- some text of the form
-pub some_values : (ps : List Part) → is_readable ps ≡ true → (vs : List ℕ) × Fits ps vs
+pub some_values : (ps : List Part) → is_readable ps ≡ true → (vs : List Value) × Fits ps vs
 some_values [] ok = ([], tt)
 some_values (word w ∷ ps) ok = some_values ps ok
 some_values (field f ∷ ps) ok =
@@ -46,18 +46,18 @@ some_values (field f ∷ ps) ok =
       | inr t ↦ (t.some ∷ vs.0, (t.fits, vs.1))
     ]
 
-pub record FormMatch (ps : List Part) (done bytes : List ℕ) : Type 0 where
-  pub values : List ℕ
+pub record FormMatch (ps : List Part) (done : List Value) (bytes : List ℕ) : Type 0 where
+  pub values : List Value
   pub read : form_reading ps done bytes ≡ Ok (done ++ values)
   pub fits : Fits ps values
   pub text : bytes ≡ spelling ps values
 
-pub record FormMismatch (ps : List Part) (done bytes : List ℕ) : Type 0 where
+pub record FormMismatch (ps : List Part) (done : List Value) (bytes : List ℕ) : Type 0 where
   pub front : List ℕ
   pub back : List ℕ
   pub read : form_reading ps done bytes ≡ Err (length back)
   pub parts : bytes ≡ front ++ back
-  pub some : List ℕ
+  pub some : List Value
   pub fits : Fits ps some
   pub rest : List ℕ
   pub text : spelling ps some ≡ front ++ rest
@@ -68,7 +68,7 @@ same_after : (f : Field) (bytes : List ℕ) (t : FieldMatch f bytes) (front back
 same_after f bytes t [] back b more new e h = t.near b more new (e ∙ h)
 same_after f bytes t (c ∷ front) back b more new e h = t.near c (front ++ back) (front ++ b ∷ new) e
 
-scan_word : (w : List ℕ) (ps : List Part) (done bytes : List ℕ) → is_readable ps ≡ true
+scan_word : (w : List ℕ) (ps : List Part) (done : List Value) (bytes : List ℕ) → is_readable ps ≡ true
     → ((rest : List ℕ) → FormMatch ps done rest ⊎ FormMismatch ps done rest)
     → (r : Result (List ℕ) ℕ) → word_reading w bytes ≡ r → FormMatch (word w ∷ ps) done bytes ⊎ FormMismatch (word w ∷ ps) done bytes
 scan_word w ps done bytes ok on (Ok rest) e =
@@ -102,10 +102,10 @@ scan_word w ps done bytes ok on (Err left) e =
       near = λ b more new h. rw (s.near b more new h) refl;
     })
 
-regrouped : (r : Result (List ℕ) ℕ) (done vs : List ℕ) (v : ℕ) → r ≡ Ok ((done ++ v ∷ []) ++ vs) → r ≡ Ok (done ++ v ∷ vs)
+regrouped : (r : Result (List Value) ℕ) (done vs : List Value) (v : Value) → r ≡ Ok ((done ++ v ∷ []) ++ vs) → r ≡ Ok (done ++ v ∷ vs)
 regrouped r done vs v e = rw append_assoc at e
 
-pub scans : (ps : List Part) (done bytes : List ℕ) → is_readable ps ≡ true → FormMatch ps done bytes ⊎ FormMismatch ps done bytes
+pub scans : (ps : List Part) (done : List Value) (bytes : List ℕ) → is_readable ps ≡ true → FormMatch ps done bytes ⊎ FormMismatch ps done bytes
 scans [] done [] ok = inl (record { values = []; read = rw (append-nil done) refl; fits = tt; text = refl })
 scans [] done (b ∷ bytes) ok = inr (record {
   front = [];

@@ -4,7 +4,7 @@ use Rattle.std.specs.Prelude.{◌≡◌, ℕ, zero, suc, ◌+◌, ◌-◌, ◌*�
 use Rattle.s2_text.specs.declared.lines.TheConstants.{LINE_BYTES, HASH}
 use Rattle.s2_text.specs.declared.stops.Stop.{Stop}
 use Rattle.s2_text.specs.declared.stops.BadLine.{BadLine}
-use Rattle.s2_text.specs.LineGrammar.{Field, number, hex, letter, is_one_of, Part, word, field, IsTextOfOne, Reaches}
+use Rattle.s2_text.specs.LineGrammar.{Value, num, name, Field, number, hex, letter, signed, label, is_one_of, is_digit, is_small_letter, is_name_byte, Part, word, field, IsTextOfOne, Reaches}
 use Rattle.s2_text.specs.LineTables.{LineRow, forms, SaysIn, ReadsRow, ReadsLine}
 
 -- one reading, and then one of the bytes behind it
@@ -25,10 +25,6 @@ abbrev pub word_reading : List ℕ → List ℕ → Result (List ℕ) ℕ
 word_reading [] bytes = Ok bytes
 word_reading (w ∷ ws) [] = Err 0
 word_reading (w ∷ ws) (b ∷ bytes) = if b == w then word_reading ws bytes else Err (suc (length bytes))
-
--- `0` to `9`
-abbrev pub is_digit : ℕ → Bool
-is_digit b = nat_le 48 b && nat_le b 57
 
 -- b is a digit, and with it the number v is still at most high
 abbrev pub goes_on : ℕ → ℕ → ℕ → Bool
@@ -69,11 +65,43 @@ abbrev pub letter_reading : List ℕ → List ℕ → Result (ℕ × List ℕ) �
 letter_reading allowed [] = Err 0
 letter_reading allowed (b ∷ bytes) = if is_one_of allowed b then Ok (b, bytes) else Err (suc (length bytes))
 
+-- a number from 1 to 32768 behind the sign, modulo 65536
+abbrev pub negated : Result (ℕ × List ℕ) ℕ → Result (ℕ × List ℕ) ℕ
+negated (Ok x) = Ok (65536 - x.0, x.1)
+negated (Err e) = Err e
+
+-- a decimal number from -32768 to 32767 at the front, modulo 65536
+abbrev pub signed_reading : List ℕ → Result (ℕ × List ℕ) ℕ
+signed_reading [] = Err 0
+signed_reading (b ∷ bytes) = if b == 45 then negated (number_reading 1 32768 bytes) else number_reading 0 32767 (b ∷ bytes)
+
+-- the small letters and digits at the front, at most so many, and what is behind them
+abbrev pub name_from : ℕ → List ℕ → List ℕ × List ℕ
+name_from zero bytes = ([], bytes)
+name_from (suc n) [] = ([], [])
+name_from (suc n) (b ∷ bytes) = if is_name_byte b then (b ∷ (name_from n bytes).0, (name_from n bytes).1) else ([], b ∷ bytes)
+
+-- a name at the front, as long as it goes
+abbrev pub name_reading : List ℕ → Result (List ℕ × List ℕ) ℕ
+name_reading [] = Err 0
+name_reading (b ∷ bytes) = if is_small_letter b then Ok (b ∷ (name_from 15 bytes).0, (name_from 15 bytes).1) else Err (suc (length bytes))
+
+-- the value of a field
+abbrev pub as_number : Result (ℕ × List ℕ) ℕ → Result (Value × List ℕ) ℕ
+as_number (Ok x) = Ok (num x.0, x.1)
+as_number (Err e) = Err e
+
+abbrev pub as_name : Result (List ℕ × List ℕ) ℕ → Result (Value × List ℕ) ℕ
+as_name (Ok x) = Ok (name x.0, x.1)
+as_name (Err e) = Err e
+
 -- a field at the front
-abbrev pub field_reading : Field → List ℕ → Result (ℕ × List ℕ) ℕ
-field_reading (number low high) bytes = number_reading low high bytes
-field_reading (hex n) bytes = hex_reading n 0 bytes
-field_reading (letter allowed) bytes = letter_reading allowed bytes
+abbrev pub field_reading : Field → List ℕ → Result (Value × List ℕ) ℕ
+field_reading (number low high) bytes = as_number (number_reading low high bytes)
+field_reading (hex n) bytes = as_number (hex_reading n 0 bytes)
+field_reading (letter allowed) bytes = as_number (letter_reading allowed bytes)
+field_reading signed bytes = as_number (signed_reading bytes)
+field_reading label bytes = as_name (name_reading bytes)
 
 -- the end of the line
 abbrev pub end_reading : List ℕ → Result (Unit {0}) ℕ
@@ -82,14 +110,14 @@ end_reading (b ∷ bytes) = Err (suc (length bytes))
 
 -- ---- a form
 
--- the numbers of the form's fields, behind those that were read before
-abbrev pub form_reading : List Part → List ℕ → List ℕ → Result (List ℕ) ℕ
+-- the values of the form's fields, behind those that were read before
+abbrev pub form_reading : List Part → List Value → List ℕ → Result (List Value) ℕ
 form_reading [] done bytes = end_reading bytes >>= λ _. Ok done
 form_reading (word w ∷ ps) done bytes = word_reading w bytes >>= λ rest. form_reading ps done rest
 form_reading (field f ∷ ps) done bytes = field_reading f bytes >>= λ x. form_reading ps (done ++ x.0 ∷ []) x.1
 
--- what the numbers say
-abbrev pub answer_of : {A : Type 0} → (List ℕ → A) → Result (List ℕ) ℕ → Result A ℕ
+-- what the values say
+abbrev pub answer_of : {A : Type 0} → (List Value → A) → Result (List Value) ℕ → Result A ℕ
 answer_of says (Ok vs) = Ok (says vs)
 answer_of says (Err left) = Err left
 

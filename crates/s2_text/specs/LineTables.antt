@@ -2,21 +2,21 @@
 use Rattle.std.specs.Prelude.{◌≡◌, ℕ, ◌-◌, ◌≤◌, ◌⊎◌, List, [], ◌∷◌, length, Option, Some, None, Result, Ok, Err}
 use Rattle.s2_text.specs.declared.lines.TheConstants.{LINE_BYTES, HASH}
 use Rattle.s2_text.specs.declared.stops.BadLine.{BadLine}
-use Rattle.s2_text.specs.LineGrammar.{Part, Fits, spelling, IsTextOfOne, IsBadAt}
+use Rattle.s2_text.specs.LineGrammar.{Value, Part, Fits, spelling, IsTextOfOne, IsBadAt}
 
--- a kind of line: its form, and what the numbers of its fields say
+-- a kind of line: its form, and what the values of its fields say
 pub record LineRow (A : Type 0) : Type 0 where
   pub form : List Part
-  pub says : List ℕ → A
+  pub says : List Value → A
 
 -- the forms of a table
 abbrev pub forms : {A : Type 0} → List (LineRow A) → List (List Part)
 forms [] = []
 forms (row ∷ rows) = row.form ∷ forms rows
 
--- the line is a text of the form, and x is what its numbers say
-abbrev pub SaysBy : {A : Type 0} → List Part → (List ℕ → A) → A → List ℕ → Type 0
-SaysBy ps says x line = (vs : List ℕ) × Fits ps vs × (line ≡ spelling ps vs) × (x ≡ says vs)
+-- the line is a text of the form, and x is what its values say
+abbrev pub SaysBy : {A : Type 0} → List Part → (List Value → A) → A → List ℕ → Type 0
+SaysBy ps says x line = (vs : List Value) × Fits ps vs × (line ≡ spelling ps vs) × (x ≡ says vs)
 
 -- the line is a text of some row, and x is what it says there
 abbrev pub SaysIn : {A : Type 0} → List (LineRow A) → A → List ℕ → Type 0

@@ -4,7 +4,8 @@ ghost use Rattle.std.specs.Prelude.{◌≡◌, ℕ, ◌+◌, ◌-◌, ◌*◌, �
 ghost use Rattle.std.specs.Fmt.{decimal};
 ghost use Rattle.s2_text.specs.declared.lines.TheConstants.{LINE_BYTES};
 ghost use Rattle.s2_text.specs.DecimalText.{IsDecimalText};
-ghost use Rattle.s2_text.specs.LineReading.{IsReading, goes_on, digits_from, number_reading};
+ghost use Rattle.s2_text.specs.LineReading.{IsReading, goes_on, digits_from, number_reading, signed_reading};
+ghost use Rattle.s2_text.specs.LineGrammar.{signed_text};
 
 use crate::stops::Stop;
 use crate::text::Text;
@@ -117,4 +118,36 @@ pub fn put_dec(into: &mut Text, n: u64)
     ensures size { length into.new.items ≤ length into.old.items + 20 }
 {
     put_digits(into, n);
+}
+
+/// Reads a decimal number from -32768 to 32767 at the front, with `-` before a negative one, and answers it
+/// modulo 2^16 and what is behind it.
+pub fn signed(bytes: &[u8]) -> Result<(u16, &[u8]), Stop>
+    ensures { IsReading (λ x. (x.0, x.1.now)) result (signed_reading bytes.now) }
+{
+    let Some((first, rest)) = bytes.split_first() else {
+        return Err(Stop { left: 0 });
+    };
+    if *first == b'-' {
+        let (n, rest) = number(rest, 1, 32768)?;
+        Ok(((65536 - n) as u16, rest))
+    } else {
+        let (n, rest) = number(bytes, 0, 32767)?;
+        Ok((n as u16, rest))
+    }
+}
+
+/// Writes the number from -32768 to 32767 that is this modulo 2^16. There is room for 21 bytes.
+#[tactic(auto, using(crate::proofs::Decimals::writing))]
+pub fn put_signed(into: &mut Text, n: u16)
+    requires { length into.old.items + 21 ≤ LINE_BYTES }
+    ensures text { into.new.items ≡ into.old.items ++ signed_text n }
+    ensures size { length into.new.items ≤ length into.old.items + 21 }
+{
+    if n < 32768 {
+        put_dec(into, n as u64);
+    } else {
+        into.push(b'-');
+        put_dec(into, 65536 - n as u64);
+    }
 }

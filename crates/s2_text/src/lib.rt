@@ -11,16 +11,18 @@ mod decimal;
 mod hexadecimal;
 mod lines;
 mod literals;
+mod names;
 mod stops;
 mod tables;
 #[cfg(test)]
 mod tests;
 mod text;
 
-pub use decimal::{below, number, put_dec, read_dec};
+pub use decimal::{below, number, put_dec, put_signed, read_dec, signed};
 pub use hexadecimal::{WORD_DIGITS, hex, put_hex, read_hex};
 pub use lines::{Fed, HASH, HELD_BYTES, LINE_BYTES, LINE_FEED, Lines, front};
 pub use literals::{end, space, word};
+pub use names::{Name, name};
 pub use stops::{BadLine, Stop};
 pub use tables::{either, with_remarks, without_remarks};
 pub use text::{Text, and_dec, and_hex, and_word, put_word, start};

@@ -1,8 +1,8 @@
 //! Numbers and lines as written by hand from their rules, and generic code at a concrete type.
 
 use crate::{
-    BadLine, Fed, HELD_BYTES, Lines, Stop, Text, either, end, hex, number, put_dec, put_hex,
-    put_word, read_dec, read_hex, with_remarks, without_remarks, word,
+    BadLine, Fed, HELD_BYTES, Lines, Stop, Text, either, end, hex, name, number, put_dec, put_hex,
+    put_signed, put_word, read_dec, read_hex, signed, with_remarks, without_remarks, word,
 };
 
 /// Texts, the greatest number that is taken, and the number that they are.
@@ -48,6 +48,59 @@ static HEXADECIMALS: [(&[u8], Option<u32>); 9] = [
 fn hexadecimal_numbers_have_one_to_eight_small_digits(rt: HostRuntime) {
     for (text, v) in &HEXADECIMALS {
         assert_eq!(rt; read_hex(text), *v);
+    }
+}
+
+/// Texts, and the number from -32768 to 32767 that they are, modulo 2^16.
+#[rattlefmt::skip]
+static SIGNED: [(&[u8], Option<u16>); 9] = [
+    (b"0", Some(0)),
+    (b"32767", Some(32767)),
+    (b"-1", Some(65535)),
+    (b"-32768", Some(32768)),
+    (b"32768", None),
+    (b"-32769", None),
+    (b"-0", None),
+    (b"-", None),
+    (b"+1", None),
+];
+
+#[test]
+fn signed_numbers_have_a_sign_where_they_are_negative(rt: HostRuntime) {
+    for (text, wanted) in &SIGNED {
+        let read = match signed(text) {
+            Ok((n, rest)) => { if rest.len() == 0 { Some(n) } else { None } }
+            Err(_) => None,
+        };
+        assert_eq!(rt; read, *wanted);
+        if let Some(n) = *wanted {
+            let mut written = Text::new();
+            put_signed(&mut written, n);
+            assert_eq!(rt; written.as_slice(), *text);
+        }
+    }
+}
+
+/// Texts, and how many of their first bytes are a name.
+#[rattlefmt::skip]
+static NAMES: [(&[u8], Option<usize>); 7] = [
+    (b"a", Some(1)),
+    (b"loop1:", Some(5)),
+    (b"abcdefghijklmno9", Some(16)),
+    (b"abcdefghijklmno90", Some(16)),
+    (b"aB", Some(1)),
+    (b"9a", None),
+    (b"", None),
+];
+
+#[test]
+fn a_name_has_up_to_16_small_letters_and_digits(rt: HostRuntime) {
+    for (text, wanted) in &NAMES {
+        let read = match name(text) {
+            Ok((found, _)) => Some(found.len()),
+            Err(_) => None,
+        };
+        assert_eq!(rt; read, *wanted);
     }
 }
 

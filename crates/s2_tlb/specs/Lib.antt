@@ -1,2 +1,4 @@
 pub mod TranslationEntries
 pub mod TlbLookup
+pub mod EntryIndex
+pub mod RememberedPages

@@ -1,13 +1,18 @@
 //! The buffer and its calls.
 
-ghost use Rattle.std.specs.Prelude.{◌≡◌, ◌≢◌, ◌<◌, ◌↔◌, ℕ, true, false, IfSome};
+ghost use Rattle.std.specs.Prelude.{◌≡◌, ◌+◌, ◌*◌, ◌/◌, ◌%◌, List, ◌≢◌, ◌<◌, ◌↔◌, ℕ, true, false, IfSome};
 ghost use Rattle.s2_tlb.specs.TranslationEntries.{virtual_page, address_space, entry_at, entry_is_dirty, entry_is_valid, entry_matches, entries_written, masked_entry, zero_entries, lowest_match, AreTranslationEntries, IsLowestMatch, IsTranslationEntry, NoneMatches};
+ghost use Rattle.s2_tlb.specs.RememberedPages.{AreRemembered};
 ghost use Rattle.s2_tlb.specs.TlbLookup.{access_outcome, look_of, match_outcome, physical_address, probe_of, LowestMatchHas};
 
-use crate::entries::{ADDRESS_SPACES, ASID_UNIT, DIRTY, GLOBAL, PAGE_BYTES, TLB_ENTRIES, VALID};
+use crate::entries::{ADDRESS_SPACES, ASID_UNIT, DIRTY, PAGE_BYTES, TLB_ENTRIES, VALID};
+use crate::index::{EntryIndex, PAGES};
 use crate::outcomes::Look;
 use s2_base::{ENTRY_HI_BITS, ENTRY_LO_BITS};
 use std::marker::Model;
+
+/// How many pages a buffer remembers.
+pub const REMEMBERED_PAGES: usize = 64;
 
 /// The translation lookaside buffer, seen as the list of its entries, which are pairs of words (hi, lo).
 ///
@@ -15,26 +20,21 @@ use std::marker::Model;
 #[derive(Drop)]
 pub struct Tlb {
     pairs: [(u32, u32); TLB_ENTRIES],
+    index: EntryIndex,
+    remembered: [(u32, u32); REMEMBERED_PAGES],
 }
 
 impl Model for Tlb {
     ghost use Rattle.std.specs.Prelude.{ℕ, List};
     ghost use Rattle.s2_tlb.specs.TranslationEntries.{AreTranslationEntries};
+    ghost use Rattle.s2_tlb.specs.EntryIndex.{IsIndexOf};
+    ghost use Rattle.s2_tlb.specs.RememberedPages.{AreRemembered};
 
     ghost Value = { List (ℕ × ℕ) };
 
     ghost view = { λ t. t.pairs };
 
-    ghost invariant = { λ t. AreTranslationEntries t.pairs };
-}
-
-/// Whether an entry is of the virtual page `page` and serves the address space `asid`.
-#[inline]
-fn matches(entry: (u32, u32), page: u32, asid: u32) -> bool
-    ensures { result ≡ entry_matches entry page asid }
-{
-    entry.0 / PAGE_BYTES == page
-        && (entry.1 / GLOBAL % 2 == 1 || entry.0 / ASID_UNIT % ADDRESS_SPACES == asid)
+    ghost invariant = { λ t. AreTranslationEntries t.pairs × IsIndexOf t.index t.pairs × AreRemembered t.remembered t.pairs };
 }
 
 /// What an entry that matches gives an access to a virtual address.
@@ -50,6 +50,39 @@ fn access(entry: (u32, u32), va: u32, store: bool) -> Look
     }
 }
 
+/// The word by which the page of `va` is remembered in the address space `asid`.
+#[inline(always)]
+fn remembered_hi(va: u32, asid: u32) -> u32
+    requires { asid < ADDRESS_SPACES }
+    ensures { result ≡ va / 4096 * 4096 + asid * 64 + 1 }
+{
+    va / PAGE_BYTES * PAGE_BYTES + asid * ASID_UNIT + 1
+}
+
+/// Where the page of `va` is remembered. Programs begin their parts at multiples of large powers of two, so the low
+/// bits of the page would not do.
+#[inline(always)]
+fn remembered_place(va: u32) -> usize
+    ensures { result < REMEMBERED_PAGES }
+{
+    ((va / PAGE_BYTES).wrapping_mul(0x9E37_79B1) / 0x0400_0000) as usize
+}
+
+/// Whether a valid entry's word lets an access through.
+#[inline(always)]
+fn allows(lo: u32, store: bool) -> bool
+    ensures { result ≡ true → store ≡ true → lo / DIRTY % 2 ≡ 1 }
+{
+    !store || lo / DIRTY % 2 == 1
+}
+
+/// Forgets all pages.
+fn forget(remembered: &mut [(u32, u32); REMEMBERED_PAGES])
+    ensures { (entries : List (ℕ × ℕ)) → AreRemembered remembered.new entries }
+{
+    *remembered = [(0, 0); REMEMBERED_PAGES];
+}
+
 impl Tlb {
     /// The buffer at the start, all of whose words are 0.
     pub fn new() -> Tlb
@@ -57,20 +90,35 @@ impl Tlb {
     {
         Tlb {
             pairs: [(0, 0); TLB_ENTRIES],
+            index: EntryIndex::new(),
+            remembered: [(0, 0); REMEMBERED_PAGES],
         }
     }
 
+    /// The entries become those of another buffer. It takes no memory.
+    pub fn copy_from(&mut self, other: &Tlb)
+        ensures { self.new ≡ other.now }
+    {
+        self.pairs = other.pairs;
+        self.index.copy_from(&other.index);
+        self.remembered = other.remembered;
+    }
+
     /// The lowest entry that matches a virtual page in an address space.
+    #[inline(always)]
     fn lowest(&self, page: u32, asid: u32) -> Option<u32>
+        requires page { page < PAGES }
+        requires asid { asid < ADDRESS_SPACES }
         ensures value { result ≡ lowest_match self.now page asid }
         ensures within { IfSome result (λ i. i < TLB_ENTRIES) }
     {
-        for (i, entry) in self.pairs.iter().enumerate() {
-            if matches(*entry, page, asid) {
-                return Some(i as u32);
-            }
+        let _pairs = &self.pairs;
+        let set = self.index.matching(page, asid);
+        if set == 0 {
+            None
+        } else {
+            Some(set.trailing_zeros())
         }
-        None
     }
 
     /// What an access gives where `used` is the entry that matches, if one does.
@@ -104,6 +152,35 @@ impl Tlb {
     {
         let used = self.lowest(va / PAGE_BYTES, asid);
         self.outcome(used, va, store)
+    }
+
+    /// The physical address that an access to `va` gives in the address space `asid`, where the buffer remembers
+    /// the page and the access hits; it may have forgotten any page.
+    #[inline(always)]
+    pub fn recall(&self, va: u32, asid: u32, store: bool) -> Option<u32>
+        requires { asid < ADDRESS_SPACES }
+        ensures { IfSome result (λ pa. look_of self.now va asid store ≡ Look.Hit pa) }
+    {
+        let (hi, lo) = self.remembered[remembered_place(va)];
+        if hi == remembered_hi(va, asid) && allows(lo, store) {
+            Some(lo / PAGE_BYTES * PAGE_BYTES + va % PAGE_BYTES)
+        } else {
+            None
+        }
+    }
+
+    /// Remembers the page of `va` in the address space `asid`, where a valid entry matches. No entry changes.
+    pub fn remember(&mut self, va: u32, asid: u32)
+        requires { asid < ADDRESS_SPACES }
+        ensures { self.new ≡ self.old }
+    {
+        if let Some(i) = self.lowest(va / PAGE_BYTES, asid) {
+            let (_hi, lo) = self.pairs[i as usize];
+            if lo / VALID % 2 == 1 {
+                let place = remembered_place(va);
+                self.remembered[place] = (remembered_hi(va, asid), lo);
+            }
+        }
     }
 
     /// The lowest entry that matches the virtual page and the address space of `hi`, a word such as EntryHi
@@ -140,7 +217,10 @@ impl Tlb {
         ensures entry { entry_at self.new i ≡ masked_entry hi lo }
         ensures others { (j : ℕ) → j ≢ i → entry_at self.new j ≡ entry_at self.old j }
     {
-        self.pairs[i as usize] = (hi & ENTRY_HI_BITS, lo & ENTRY_LO_BITS);
+        let entry = (hi & ENTRY_HI_BITS, lo & ENTRY_LO_BITS);
+        self.index.replace(i, self.pairs[i as usize], entry);
+        self.pairs[i as usize] = entry;
+        forget(&mut self.remembered);
     }
 
     /// What every buffer is: 64 entries of the bits that an entry keeps. It does nothing, and tells a caller

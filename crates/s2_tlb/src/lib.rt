@@ -3,6 +3,7 @@
 
 mod buffer;
 mod entries;
+mod index;
 mod outcomes;
 
 pub use buffer::Tlb;

@@ -3,12 +3,13 @@ use Rattle.std.specs.Prelude.{ℕ, ◌+◌, ◌==◌, ◌&&◌, not, nat_lt, Lis
 use Rattle.std.specs.declared.option.Option.{Option}
 use Rattle.s2_ports.specs.declared.events.Event.{Event}
 use Rattle.s2_ports.specs.declared.events.BoardFault.{BoardFault}
-use Rattle.s2_duplex.specs.ToleratedFaults.{boards_struck}
+use Rattle.s2_revive.specs.MendingBoards.{mending_begun}
+use Rattle.s2_revive.specs.MendingFaults.{mending_struck}
 use Rattle.s2_join.specs.CopyOrder.{copy_start}
 use Rattle.s2_voter.specs.VoterState.{VoterState, is_member, latch_of, has_two_latches}
 use Rattle.s2_voter.specs.VoterCalls.{remaining_age}
 use Rattle.s2_script.specs.declared.entry.Act.{Act}
-use Rattle.s2_script.specs.declared.entry.Act.TheVariants.{Event as EventAct, Poke, PokeLocal, Drive, Mute, Remove, Revive, Board}
+use Rattle.s2_script.specs.declared.entry.Act.TheVariants.{Event as EventAct, Poke, PokeLocal, Drive, Mute, Remove, Revive, Board, Mend}
 use Rattle.s2_triplex.specs.declared.membership.Membership.{Membership}
 use Rattle.s2_triplex.specs.declared.membership.Membership.TheVariants.{Joining}
 use Rattle.s2_triplex.specs.declared.numbers.TheConstants.{INBOX_EVENTS}
@@ -44,7 +45,7 @@ module_disturbed p m d = record d {
 abbrev pub voter_without : ℕ → VoterState → VoterState
 voter_without p v =
     let latches = three_of (λ q. if p == q then None else latch_of v q) in
-    record { members = three_of (λ q. not (p == q) && is_member v q); latches = latches; age = remaining_age (has_two_latches latches) v.age }
+    record { members = three_of (λ q. not (p == q) && is_member v q); latches = latches; age = remaining_age (has_two_latches latches) v.age; timer = v.timer }
 
 -- a removal: the processor is out, and is the tainted one; its reintegration ends
 abbrev pub removed : ℕ → TriplexState → TriplexState
@@ -79,7 +80,11 @@ revived_if_out p d = if is_revivable p d then revived p d else d
 
 -- a fault of a board
 abbrev pub board_struck : BoardFault → TriplexState → TriplexState
-board_struck fault d = record d { boards = boards_struck d.boards fault }
+board_struck fault d = record d { boards = mending_struck d.boards fault }
+
+-- the mending of a board begins, where it is out and none mends
+abbrev pub mend_begun : ℕ → TriplexState → TriplexState
+mend_begun board d = record d { boards = mending_begun board d.boards }
 
 -- an act that is lawful
 abbrev pub acted : Act → TriplexState → TriplexState
@@ -91,3 +96,4 @@ acted (Mute p) d = module_disturbed p (module_muted (module_at d.modules p)) d
 acted (Remove p) d = removed p d
 acted (Revive p) d = revived_if_out p d
 acted (Board fault) d = board_struck fault d
+acted (Mend board) d = mend_begun board d

@@ -7,6 +7,7 @@ pub mod ModuleFaults
 pub mod TriplexState
 pub mod ReferenceMachine
 pub mod TickFirings
+pub mod WaitingEvents
 pub mod VotedAccess
 pub mod VoterDecision
 pub mod CopyHolds

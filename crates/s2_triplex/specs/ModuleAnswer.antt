@@ -12,7 +12,7 @@ use Rattle.s2_triplex.specs.ModuleState.{ModuleState, Replica, replica_of, with_
 
 -- the processor ends the cycle that asked, with the word that was read and the lines of the devices
 abbrev pub after_answered_cycle : TriplexCore → ℕ → ℕ → Replica → Replica
-after_answered_cycle k word lines s = let p = k.core.after_finish s.cpu s.local word lines in record { cpu = p; local = s.local; due = is_frame_end k.frame p.run }
+after_answered_cycle k word lines s = let p = k.core.after_finish s.cpu s.local word lines in record { cpu = p; local = s.local; due = is_frame_end s.frame p.run; frame = s.frame }
 
 -- at a frame's end it sees the lines of the devices, and no frame's end is due
 abbrev pub finished_replica : TriplexCore → Kind → ℕ → ℕ → Replica → Replica

@@ -29,9 +29,10 @@ module_revived m = record m { port = None; muted = false }
 abbrev pub module_unmarked : ModuleState → ModuleState
 module_unmarked m = record m { marks = no_marks }
 
--- a reintegration ends: it waits for nothing, no frame's end is due, it is not muted and no page is marked
+-- a reintegration ends: it waits for nothing, no frame's end is due, it is not muted, no page is marked, and it has
+-- no private value any more
 abbrev pub module_reset : ModuleState → ModuleState
-module_reset m = record m { port = None; due = false; muted = false; marks = no_marks }
+module_reset m = record m { port = None; due = false; muted = false; marks = no_marks; private = 0 }
 
 -- a reintegration ends with this processor
 abbrev pub module_restored : Processor → ModuleState → ModuleState

@@ -20,10 +20,11 @@ module_idled m = record m { fires = (m.fires + 1) % REFRESH_PERIOD }
 abbrev pub is_working : ModuleState → Bool → Bool
 is_working m member = member && (not m.muted && nat_lt m.fires first_refresh)
 
--- work: a cycle where it asks nothing; else the request is posted, with the number of events accepted so far
+-- work: a cycle where it asks nothing; else the request is posted, with the number of events accepted so far, and
+-- the private value is the number of the next firing
 abbrev pub after_work : TriplexCore → ℕ → ModuleState → Ask → ModuleState
 after_work k seen m Local = record (with_replica m (after_local_cycle k (replica_of m))) { marks = k.core.marks_after_turn m.cpu m.local m.marks }
-after_work k seen m (Outside request) = record m { port = Some (record { request = request; seen = seen }) }
+after_work k seen m (Outside request) = record m { port = Some (record { request = request; seen = seen }); private = m.fires }
 
 -- a module that waits for an answer does not work
 abbrev pub after_work_unless_waiting : TriplexCore → ℕ → ModuleState → Option Posted → ModuleState

@@ -2,7 +2,7 @@
 -- for.
 use Rattle.std.specs.Prelude.{ℕ, nat_lt, ◌&&◌, ◌||◌, not, List, Bool, if◌then◌else◌}
 use Rattle.std.specs.declared.option.Option.{Option}
-use Rattle.s2_duplex.specs.DuplexBoards.{contents}
+use Rattle.s2_revive.specs.MendingBoards.{memory_of}
 use Rattle.s2_machine.specs.Machine.{Machine}
 use Rattle.s2_triplex.specs.ModuleState.{ModuleState}
 use Rattle.s2_triplex.specs.TriplexState.{TriplexState, module_at, is_good}
@@ -32,7 +32,7 @@ runs d = least_run d.tainted d.modules
 
 -- a module as a machine with flat memories
 abbrev pub machine_with : TriplexState → ModuleState → Machine
-machine_with d m = record { cpu = m.cpu; local = m.local; global = contents d.boards; device = d.device; halt = d.halt }
+machine_with d m = record { cpu = m.cpu; local = m.local; global = memory_of d.boards; device = d.device; halt = d.halt }
 
 abbrev pub reference : TriplexState → Machine
 reference d = machine_with d (module_at d.modules (slowest d.tainted d.modules))

@@ -4,9 +4,10 @@ use Rattle.std.specs.declared.option.Option.{Option}
 use Rattle.s2_ports.specs.declared.events.BoardFault.{BoardFault}
 use Rattle.s2_clock.specs.declared.watch.Slow.{Slow}
 use Rattle.s2_clock.specs.ClockWatch.{slow_of}
-use Rattle.s2_duplex.specs.ToleratedFaults.{is_tolerated, faulty_board}
+use Rattle.s2_duplex.specs.ToleratedFaults.{faulty_board}
+use Rattle.s2_revive.specs.MendingFaults.{is_fault_tolerated}
 use Rattle.s2_script.specs.declared.entry.Act.{Act}
-use Rattle.s2_script.specs.declared.entry.Act.TheVariants.{Event, Poke, PokeLocal, Drive, Mute, Remove, Revive, Board}
+use Rattle.s2_script.specs.declared.entry.Act.TheVariants.{Event, Poke, PokeLocal, Drive, Mute, Remove, Revive, Board, Mend}
 use Rattle.s2_journal.specs.declared.note.Reason.{Reason}
 use Rattle.s2_journal.specs.declared.note.Reason.TheVariants.{Second, Slow as SlowReason, BothBoards}
 use Rattle.s2_triplex.specs.TriplexState.{TriplexState}
@@ -26,7 +27,7 @@ second_fault (Some tainted) p = if tainted == p then None else Some (Second tain
 
 -- a fault of a board is refused where a word could be lost on both
 abbrev pub board_refusal : TriplexState → BoardFault → Option Reason
-board_refusal d fault = if is_tolerated d.boards fault then None else Some (BothBoards (faulty_board fault))
+board_refusal d fault = if is_fault_tolerated d.boards fault then None else Some (BothBoards (faulty_board fault))
 
 abbrev pub act_refusal : TriplexState → Act → Option Reason
 act_refusal d (Event event) = None
@@ -37,3 +38,4 @@ act_refusal d (Mute p) = second_fault d.tainted p
 act_refusal d (Remove p) = second_fault d.tainted p
 act_refusal d (Revive p) = None
 act_refusal d (Board fault) = board_refusal d fault
+act_refusal d (Mend board) = None

@@ -4,21 +4,22 @@ use Rattle.std.specs.declared.option.Option.{Option}
 use Rattle.std.specs.declared.result.Result.{Result}
 use Rattle.s2_ports.specs.declared.events.BoardFault.{BoardFault}
 use Rattle.s2_ports.specs.declared.events.BoardFault.TheVariants.{Dead, Flip}
+use Rattle.s2_revive.specs.MendingBoards.{mended_by, mending_begins}
 use Rattle.s2_join.specs.declared.item.Item.{Item}
 use Rattle.s2_join.specs.CopyOrder.{is_last_item}
 use Rattle.s2_script.specs.declared.entry.Act.{Act}
-use Rattle.s2_script.specs.declared.entry.Act.TheVariants.{Event, Poke, PokeLocal, Drive, Mute, Remove, Revive, Board}
+use Rattle.s2_script.specs.declared.entry.Act.TheVariants.{Event, Poke, PokeLocal, Drive, Mute, Remove, Revive, Board, Mend as MendAct}
 use Rattle.s2_journal.specs.declared.note.Why.{Why}
 use Rattle.s2_journal.specs.declared.note.Why.TheVariants.{Differ, Late, Removed}
 use Rattle.s2_journal.specs.declared.note.Note.{Note}
-use Rattle.s2_journal.specs.declared.note.Note.TheVariants.{Delivered, Out as OutNote, Lost, Repaired, BoardDead, Join, Joined}
+use Rattle.s2_journal.specs.declared.note.Note.TheVariants.{Delivered, Out as OutNote, Lost, Repaired, BoardDead, Mend, Mended, Join, Joined}
 use Rattle.s2_journal.specs.declared.note.Reason.{Reason}
 use Rattle.s2_machine.specs.declared.deliveries.Delivery.{Delivery}
 use Rattle.s2_triplex.specs.declared.numbers.TheConstants.{INBOX_EVENTS}
 use Rattle.s2_triplex.specs.TriplexCores.{TriplexCore}
 use Rattle.s2_triplex.specs.TriplexState.{TriplexState, Reintegration, membership_at, is_out}
 use Rattle.s2_triplex.specs.VotedAccess.{RepairedWord}
-use Rattle.s2_triplex.specs.VoterDecision.{StepEffects}
+use Rattle.s2_triplex.specs.VoterDecision.{StepEffects, tick_verdict, is_idle_verdict}
 use Rattle.s2_triplex.specs.CopyHolds.{is_holding}
 use Rattle.s2_triplex.specs.TickStep.{after_working_tick, ticked}
 use Rattle.s2_triplex.specs.ActStep.{acted, is_revivable}
@@ -49,6 +50,15 @@ delivery_notes (d ∷ ds) = Delivered d.run d.event ∷ delivery_notes ds
 abbrev pub effect_notes : ℕ → StepEffects → List Note
 effect_notes tick e = out_notes tick Differ e.differ ++ (out_notes tick Late e.late ++ (repair_notes tick e.repaired ++ delivery_notes e.deliveries))
 
+-- that of an idle turn, which has no other effects: a board is in again
+abbrev pub mended_notes : ℕ → Option ℕ → List Note
+mended_notes tick None = []
+mended_notes tick (Some board) = Mended tick board ∷ []
+
+-- those of a voter's turn, be it idle or not
+abbrev pub turn_notes : Bool → ℕ → Option ℕ → StepEffects → List Note
+turn_notes idle tick mended e = if idle then mended_notes tick mended else effect_notes tick e
+
 -- that of the last saved word
 abbrev pub joined_notes_if : Bool → ℕ → Reintegration → List Note
 joined_notes_if true tick j = Joined tick j.copying.joiner (not j.disturbed) ∷ []
@@ -66,7 +76,7 @@ hold_notes tick (Some j) = copy_notes tick j j.copying.left
 abbrev pub working_turn : TriplexCore → TriplexState → ℕ → Turn
 working_turn k d mask =
     let step = after_working_tick k d mask in
-    record { notes = effect_notes (d.ticks + 1) step.effects; out = step.effects.out; halt = step.next.halt }
+    record { notes = turn_notes (is_idle_verdict (tick_verdict k d mask)) (d.ticks + 1) (mended_by d.boards.mending) step.effects; out = step.effects.out; halt = step.next.halt }
 
 abbrev pub hold_turn : TriplexState → Turn
 hold_turn d = record { notes = hold_notes (d.ticks + 1) d.reintegration; out = None; halt = d.halt }
@@ -75,7 +85,7 @@ abbrev pub tick_turn : TriplexCore → TriplexState → ℕ → Turn
 tick_turn k d mask = if is_holding d.reintegration then hold_turn d else working_turn k d mask
 
 -- what an act makes known: an event that is lost, a removal of a processor that was not out, the begin of a
--- reintegration, and a board that is out
+-- reintegration, a board that is out, and the begin of its mending
 abbrev pub board_notes : ℕ → BoardFault → List Note
 board_notes tick (Dead board) = BoardDead tick board ∷ []
 board_notes tick (Flip board index bit) = []
@@ -89,6 +99,7 @@ act_notes d (Mute p) = []
 act_notes d (Remove p) = if is_out (membership_at d.memberships p) then [] else OutNote d.ticks p Removed ∷ []
 act_notes d (Revive p) = if is_revivable p d then Join d.ticks p ∷ [] else []
 act_notes d (Board fault) = board_notes d.ticks fault
+act_notes d (MendAct board) = if mending_begins board d.boards then Mend d.ticks board ∷ [] else []
 
 abbrev pub act_turn : TriplexState → Act → Turn
 act_turn d act = record { notes = act_notes d act; out = None; halt = d.halt }

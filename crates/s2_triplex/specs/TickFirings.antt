@@ -29,7 +29,7 @@ latch_taken false None port = None
 abbrev pub latched_from : (ℕ → Option Posted) → VoterState → VoterState
 latched_from ports v =
     let latches = three_of (λ p. latch_taken (is_member v p) (latch_of v p) (ports p)) in
-    record { members = v.members; latches = latches; age = started_age (has_two_latches latches) (older v.age) }
+    record { members = v.members; latches = latches; age = started_age (has_two_latches latches) (older v.timer v.age); timer = v.timer }
 
 -- the machine at the verdict of a tick
 abbrev pub after_firings : TriplexCore → TriplexState → ℕ → TriplexState

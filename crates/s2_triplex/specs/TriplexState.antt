@@ -4,13 +4,14 @@ use Rattle.std.specs.declared.option.Option.{Option}
 use Rattle.s2_ports.specs.declared.events.Event.{Event}
 use Rattle.s2_clock.specs.ClockWatch.{fair_windows, is_tainted}
 use Rattle.s2_device.specs.DeviceState.{Device, quiet_device}
-use Rattle.s2_duplex.specs.DuplexBoards.{BoardPair, new_boards}
+use Rattle.s2_revive.specs.MendingBoards.{MendingBoards, new_mending}
 use Rattle.s2_voter.specs.VoterState.{VoterState}
+use Rattle.s2_voter.specs.Timers.{timer_of}
 use Rattle.s2_voter.specs.VoterCalls.{new_voter}
 use Rattle.s2_join.specs.CopyOrder.{CopyState}
 use Rattle.s2_triplex.specs.declared.membership.Membership.{Membership}
 use Rattle.s2_triplex.specs.declared.membership.Membership.TheVariants.{In, Out, Joining}
-use Rattle.s2_triplex.specs.ModuleState.{ModuleState, started_module, blank_module}
+use Rattle.s2_triplex.specs.ModuleState.{ModuleState, started_module, module_framed, blank_module}
 
 -- an open reintegration: the order of copying, the tick of its `revive`, the run count of the last resume then,
 -- the words copied so far, and whether an act disturbed the joining processor since
@@ -21,7 +22,7 @@ pub record Reintegration : Type 0 where
   pub copied : ℕ
   pub disturbed : Bool
 
--- Three modules with their memberships, the voter, the two boards and the devices; the events that wait, how
+-- Three modules with their memberships, the voter, the two boards, of which one may mend, and the devices; the events that wait, how
 -- many were accepted and how many delivered; the tainted processor; the ticks that were run, and the halt value;
 -- the tick and run count of the last resume, the tick of each processor's last posting, and the last ticks of
 -- each clock; the open reintegration; and the run cycles of a frame.
@@ -30,7 +31,7 @@ pub record TriplexState : Type 0 where
   pub modules : List ModuleState
   pub memberships : List Membership
   pub voter : VoterState
-  pub boards : BoardPair
+  pub boards : MendingBoards
   pub device : Device
   pub inbox : List Event
   pub accepted : ℕ
@@ -73,14 +74,15 @@ is_out Joining = false
 abbrev pub is_good : Option ℕ → ℕ → Bool
 is_good tainted p = not (is_tainted tainted p)
 
--- at the start of a program: an entry and the two lists
+-- at the start of a program, with a frame: an entry and the two lists. Each module has the frame, and the voter the
+-- timer of it.
 abbrev pub started_triplex : ℕ → ℕ → List ℕ → List ℕ → TriplexState
 started_triplex frame entry local global = record {
   frame = frame;
-  modules = three_of (λ _. started_module entry local);
+  modules = three_of (λ _. started_module frame entry local);
   memberships = three_of (λ _. In);
-  voter = new_voter;
-  boards = new_boards global;
+  voter = record new_voter { timer = timer_of frame };
+  boards = new_mending global;
   device = quiet_device;
   inbox = [];
   accepted = 0;
@@ -93,4 +95,12 @@ started_triplex frame entry local global = record {
   posted = three_of (λ _. 0);
   windows = fair_windows;
   reintegration = None;
+}
+
+-- a machine with another frame: that of each module is it too, and the voter's timer is that of it
+abbrev pub with_frame : ℕ → TriplexState → TriplexState
+with_frame frame d = record d {
+  frame = frame;
+  modules = three_of (λ p. module_framed frame (module_at d.modules p));
+  voter = record d.voter { timer = timer_of frame };
 }

@@ -1,4 +1,5 @@
--- What an agreed request does: it is performed once, on the boards, the devices or the events that wait.
+-- What an agreed request does: it is performed once, on the boards, the devices or the events that wait. Before a
+-- store to PRIV the private values of the processors that agree are delivered.
 use Rattle.std.specs.Prelude.{ℕ, ◌-◌, List, [], ◌∷◌, ◌++◌, take, drop, Some, None, if◌then◌else◌}
 use Rattle.std.specs.declared.option.Option.{Option}
 use Rattle.s2_base.specs.Map.{place_at}
@@ -9,16 +10,19 @@ use Rattle.s2_ports.specs.declared.requests.Request.{Request}
 use Rattle.s2_ports.specs.declared.requests.Posted.{Posted}
 use Rattle.s2_ports.specs.declared.requests.Kind.{Kind}
 use Rattle.s2_ports.specs.declared.requests.Kind.TheVariants.{Load, Store, Sync}
+use Rattle.s2_private.specs.PrivateValues.{gathered}
 use Rattle.s2_agree.specs.AgreedCount.{agreed_count}
 use Rattle.s2_device.specs.DeviceState.{Device, device_after}
-use Rattle.s2_duplex.specs.DuplexBoards.{BoardPair, BoardRead, contents}
+use Rattle.s2_revive.specs.MendingBoards.{MendingBoards, MendingRead, memory_of}
 use Rattle.s2_voter.specs.VoterState.{VoterState, latch_of}
 use Rattle.s2_voter.specs.RequestEquality.{is_same_request}
 use Rattle.s2_machine.specs.declared.deliveries.Delivery.{Delivery}
 use Rattle.s2_machine.specs.OutsideAccess.{AccessResult}
+use Rattle.s2_machine.specs.PrivateArea.{stores_at}
 use Rattle.s2_machine.specs.Cores.{halt_after}
 use Rattle.s2_triplex.specs.TriplexCores.{TriplexCore}
-use Rattle.s2_triplex.specs.TriplexState.{TriplexState}
+use Rattle.s2_triplex.specs.ModuleState.{ModuleState}
+use Rattle.s2_triplex.specs.TriplexState.{TriplexState, three_of, module_at}
 
 -- a word that was rewritten: the board and the word's index
 pub record RepairedWord : Type 0 where
@@ -29,7 +33,7 @@ pub record RepairedWord : Type 0 where
 -- value, the byte for the console, the deliveries, and the word that was rewritten
 pub record VotedAccess : Type 0 where
   pub word : ℕ
-  pub boards : BoardPair
+  pub boards : MendingBoards
   pub device : Device
   pub inbox : List Event
   pub delivered : ℕ
@@ -85,9 +89,17 @@ abbrev pub repaired_at : ℕ → Option ℕ → Option RepairedWord
 repaired_at address None = None
 repaired_at address (Some board) = Some (record { board = board; index = global_index (place_at address) })
 
--- a load or a store acts on the boards and the devices
-abbrev pub outside_access : TriplexState → ℕ → AccessResult → BoardRead → VotedAccess
-outside_access d address a s = record {
+-- the private values of the three modules
+abbrev pub private_values : List ModuleState → List ℕ
+private_values modules = three_of (λ p. (module_at modules p).private)
+
+-- the event of a store to PRIV: it is delivered before the store acts
+abbrev pub private_events : TriplexState → Request → Kind → List Event
+private_events d r kind = if stores_at kind (place_at r.address) then gathered d.voter r (private_values d.modules) ∷ [] else []
+
+-- a load or a store acts on the boards and the devices, after these events at its run count
+abbrev pub outside_access : TriplexState → Request → List Event → AccessResult → MendingRead → VotedAccess
+outside_access d r events a s = record {
   word = a.word;
   boards = s.boards;
   device = a.device;
@@ -95,15 +107,18 @@ outside_access d address a s = record {
   delivered = d.delivered;
   halt = halt_after d.halt a.halt;
   out = a.out;
-  deliveries = [];
-  repaired = repaired_at address s.repaired;
+  deliveries = deliveries_at r.run events;
+  repaired = repaired_at r.address s.repaired;
 }
+
+abbrev pub access_after : TriplexCore → TriplexState → Request → List Event → VotedAccess
+access_after k d r events = outside_access d r events (k.core.access (memory_of d.boards) (device_after_events d.device events) r) (k.boards_after d.boards r)
 
 -- what an agreed request of a kind does
 abbrev pub access_of_kind : TriplexCore → TriplexState → Request → Kind → VotedAccess
 access_of_kind k d r Sync = sync_access d r.run (agreed_count (seen_in d.voter r) d.delivered)
-access_of_kind k d r Load = outside_access d r.address (k.core.access (contents d.boards) d.device r) (k.boards_after d.boards r)
-access_of_kind k d r Store = outside_access d r.address (k.core.access (contents d.boards) d.device r) (k.boards_after d.boards r)
+access_of_kind k d r Load = access_after k d r (private_events d r Load)
+access_of_kind k d r Store = access_after k d r (private_events d r Store)
 
 abbrev pub voted_access : TriplexCore → TriplexState → Request → VotedAccess
 voted_access k d r = access_of_kind k d r r.kind

@@ -72,7 +72,7 @@ after_decision k d r a named =
     record d {
       modules = modules;
       memberships = three_of (λ p. membership_unless_left (named p) (membership_at d.memberships p));
-      voter = record { members = three_of (stays_member d named); latches = no_latches; age = None };
+      voter = record { members = three_of (stays_member d named); latches = no_latches; age = None; timer = d.voter.timer };
       boards = a.boards;
       device = a.device;
       inbox = a.inbox;
@@ -100,6 +100,12 @@ tick_verdict k d mask = verdict_of (after_firings k d mask).voter
 
 abbrev pub voted : TriplexCore → TriplexState → ℕ → StepResult
 voted k d mask = after_verdict k (after_firings k d mask) (tick_verdict k d mask)
+
+-- whether a voter's turn is idle: no access is performed in it
+abbrev pub is_idle_verdict : Verdict → Bool
+is_idle_verdict (Done r differ late) = false
+is_idle_verdict Waiting = true
+is_idle_verdict Split = true
 
 -- whether a verdict agrees on a synchronisation
 abbrev pub is_sync_verdict : Verdict → Bool

@@ -7,10 +7,11 @@ use Rattle.s2_ports.specs.declared.events.BoardFault.{BoardFault}
 use Rattle.s2_ports.specs.declared.events.Event.{Event}
 use Rattle.s2_ports.specs.declared.requests.Posted.{Posted}
 use Rattle.s2_device.specs.DeviceState.{lines_of}
-use Rattle.s2_duplex.specs.DuplexBoards.{IsDuplex, contents}
+use Rattle.s2_revive.specs.MendingBoards.{MendingBoards, AreMendingBoards, memory_of}
+use Rattle.s2_revive.specs.MendingFaults.{mending_struck}
 use Rattle.s2_voter.specs.VoterState.{is_member, latch_of}
 use Rattle.s2_triplex.specs.ActStep.{board_struck, event_received, module_disturbed, module_replaced, removed}
-use Rattle.s2_triplex.specs.ModuleState.{ModuleState, Replica, replica_of}
+use Rattle.s2_triplex.specs.ModuleState.{ModuleState, Replica, is_frame_end, replica_of}
 use Rattle.s2_triplex.specs.TriplexCores.{TriplexCore}
 use Rattle.s2_triplex.specs.TriplexState.{TriplexState, is_good, is_in, membership_at, module_at}
 use Rattle.s2_triplex.specs.VoterDecision.{membership_unless_left}
@@ -33,13 +34,14 @@ other_one p q g e = clash (p == q) refl g
     clash true x y = cc
     clash false x y = grind (arith, nat_tests)
 
--- what an act changes at most: it leaves time, the contents of global memory, the devices and every good module
+-- what an act changes at most: it leaves the frame, time, the contents of global memory, the devices and every good module
 pub record ActEffect (d e : TriplexState) : Type 0 where
+  pub frame : e.frame ≡ d.frame
   pub ticks : e.ticks ≡ d.ticks
   pub resumed : e.resumed ≡ d.resumed
   pub resumed_run : e.resumed_run ≡ d.resumed_run
   pub halt : e.halt ≡ d.halt
-  pub global : contents e.boards ≡ contents d.boards
+  pub global : memory_of e.boards ≡ memory_of d.boards
   pub device : e.device ≡ d.device
   pub good : (q : ℕ) → q < 3 → IsGood e q → IsGood d q
   pub modules : (q : ℕ) → q < 3 → IsGood e q → module_at e.modules q ≡ module_at d.modules q
@@ -57,8 +59,9 @@ act_equal k d e a h =
     let run = h.resumed_run in
     record {
       start = a.start;
+      frame = a.frame ∙ sym h.frame;
       at = a.at ∙ sym h.resumed_run;
-      ends = a.ends;
+      ends = λ due. subst (λ (frame : ℕ). is_frame_end frame a.start.cpu.run ≡ true) (sym h.frame) (a.ends due);
       low = omega arith;
       room = omega arith;
       each = λ q hq g. reached_moved k a.start d.resumed e.resumed d.ticks e.ticks (module_at d.modules q) (module_at e.modules q) h.resumed h.ticks (h.modules q hq g) (a.each q hq (h.good q hq g));
@@ -69,6 +72,7 @@ unfolding act_equal
 act_goes_on k d e a halt h = record {
   replicas = act_equal k d e a h;
   continues = record {
+    frame = h.frame;
     start = refl;
     halt = halt;
     still = h.halt ∙ halt;
@@ -94,6 +98,7 @@ module_stays p q m d hq ne = replaced_is p m d q hq ∙ ap (λ (b : Bool). if b 
 
 pub fault_acts : (p : ℕ) (m : ModuleState) (d : TriplexState) → (d.tainted ≡ None) ⊎ (d.tainted ≡ Some p) → ActEffect d (module_disturbed p m d)
 fault_acts p m d who = record {
+  frame = refl;
   ticks = refl;
   resumed = refl;
   resumed_run = refl;
@@ -120,6 +125,7 @@ fault_agrees k p m d who h = record {
       };
   inbox = h.inbox;
   frame = h.frame;
+  timer = h.timer;
   boards = h.boards;
   room = h.room;
 }
@@ -127,6 +133,7 @@ fault_agrees k p m d who h = record {
 -- a removal
 pub removal_acts : (p : ℕ) (d : TriplexState) → (d.tainted ≡ None) ⊎ (d.tainted ≡ Some p) → ActEffect d (removed p d)
 removal_acts p d who = record {
+  frame = refl;
   ticks = refl;
   resumed = refl;
   resumed_run = refl;
@@ -175,6 +182,7 @@ removal_agrees k p d who h = record {
       };
   inbox = h.inbox;
   frame = h.frame;
+  timer = h.timer;
   boards = h.boards;
   room = h.room;
 }
@@ -195,7 +203,7 @@ event_by k event d true less h =
     let room : length d.inbox < INBOX_EVENTS = grind (arith, nat_tests) in
     let longer : length (d.inbox ++ event ∷ []) ≡ length d.inbox + 1 = length-append d.inbox (event ∷ []) in
     record {
-      acts = record { ticks = refl; resumed = refl; resumed_run = refl; halt = refl; global = refl; device = refl; good = λ q hq g. g; modules = λ q hq g. refl };
+      acts = record { frame = refl; ticks = refl; resumed = refl; resumed_run = refl; halt = refl; global = refl; device = refl; good = λ q hq g. g; modules = λ q hq g. refl };
       agreement = record {
         members = h.members;
         voter = h.voter;
@@ -210,25 +218,26 @@ event_by k event d true less h =
             };
         inbox = omega arith;
         frame = h.frame;
+        timer = h.timer;
         boards = h.boards;
         room = omega arith;
       };
     }
 event_by k event d false less h =
     record {
-      acts = record { ticks = refl; resumed = refl; resumed_run = refl; halt = refl; global = refl; device = refl; good = λ q hq g. g; modules = λ q hq g. refl };
+      acts = record { frame = refl; ticks = refl; resumed = refl; resumed_run = refl; halt = refl; global = refl; device = refl; good = λ q hq g. g; modules = λ q hq g. refl };
       agreement = h;
     }
 
 pub event_acts : (k : TriplexCore) (event : Event) (d : TriplexState) → LatchAgreement k d → EventEffect k d (event_received event d)
 event_acts k event d h = event_by k event d (nat_lt (length d.inbox) INBOX_EVENTS) refl h
 
--- a fault of a board
-pub board_acts : (d : TriplexState) (fault : BoardFault) → contents (board_struck fault d).boards ≡ contents d.boards → ActEffect d (board_struck fault d)
-board_acts d fault same = record { ticks = refl; resumed = refl; resumed_run = refl; halt = refl; global = same; device = refl; good = λ q hq g. g; modules = λ q hq g. refl }
+-- boards that stand for the same list
+pub boards_act : (d : TriplexState) (s : MendingBoards) → memory_of s ≡ memory_of d.boards → ActEffect d (record d { boards = s })
+boards_act d s same = record { frame = refl; ticks = refl; resumed = refl; resumed_run = refl; halt = refl; global = same; device = refl; good = λ q hq g. g; modules = λ q hq g. refl }
 
-pub board_agrees : (k : TriplexCore) (d : TriplexState) (fault : BoardFault) → IsDuplex (board_struck fault d).boards → LatchAgreement k d → LatchAgreement k (board_struck fault d)
-board_agrees k d fault boards h = record {
+pub boards_agree : (k : TriplexCore) (d : TriplexState) (s : MendingBoards) → AreMendingBoards s → LatchAgreement k d → LatchAgreement k (record d { boards = s })
+boards_agree k d s boards h = record {
   members = h.members;
   voter = h.voter;
   good = λ q hq g.
@@ -236,6 +245,14 @@ board_agrees k d fault boards h = record {
       record { membership = t.membership; awake = t.awake; port = t.port; latch = t.latch; lines = t.lines };
   inbox = h.inbox;
   frame = h.frame;
+  timer = h.timer;
   boards = boards;
   room = h.room;
 }
+
+-- a fault of a board
+pub board_acts : (d : TriplexState) (fault : BoardFault) → memory_of (board_struck fault d).boards ≡ memory_of d.boards → ActEffect d (board_struck fault d)
+board_acts d fault same = boards_act d (mending_struck d.boards fault) same
+
+pub board_agrees : (k : TriplexCore) (d : TriplexState) (fault : BoardFault) → AreMendingBoards (board_struck fault d).boards → LatchAgreement k d → LatchAgreement k (board_struck fault d)
+board_agrees k d fault boards h = boards_agree k d (mending_struck d.boards fault) boards h

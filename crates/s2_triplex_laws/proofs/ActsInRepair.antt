@@ -53,14 +53,14 @@ replaced_by P false m n x y = y
 number_is : (p q : ℕ) → (p == q) ≡ true → p ≡ q
 number_is p q h = grind (arith, nat_tests)
 
-replaced_module : (d : TriplexState) (p : ℕ) (m : ModuleState) → RepairInvariant d → (p < 3 → IsModule m) → (q : ℕ) → q < 3 → IsModule (module_replaced p m d.modules q)
+replaced_module : (d : TriplexState) (p : ℕ) (m : ModuleState) → RepairInvariant d → (p < 3 → IsModule d.frame m) → (q : ℕ) → q < 3 → IsModule d.frame (module_replaced p m d.modules q)
 replaced_module d p m r fits q hq =
-    replaced_by IsModule (p == q) m (module_at d.modules q) (λ same. fits (subst (λ (n : ℕ). n < 3) (sym (number_is p q same)) hq)) (r.modules q hq)
+    replaced_by (IsModule d.frame) (p == q) m (module_at d.modules q) (λ same. fits (subst (λ (n : ℕ). n < 3) (sym (number_is p q same)) hq)) (r.modules q hq)
 
 -- a fault of one processor
-fault_repair : (k : TriplexCore) (d : TriplexState) (p : ℕ) (m : ModuleState) → RepairInvariant d → (d.tainted ≡ None) ⊎ (d.tainted ≡ Some p) → (p < 3 → IsModule m) → RepairInvariant (module_disturbed p m d)
+fault_repair : (k : TriplexCore) (d : TriplexState) (p : ℕ) (m : ModuleState) → RepairInvariant d → (d.tainted ≡ None) ⊎ (d.tainted ≡ Some p) → (p < 3 → IsModule d.frame m) → RepairInvariant (module_disturbed p m d)
 fault_repair k d p m r who fits = record {
-  modules = λ q hq. subst IsModule (sym (replaced_is p m d q hq)) (replaced_module d p m r fits q hq);
+  modules = λ q hq. subst (IsModule d.frame) (sym (replaced_is p m d q hq)) (replaced_module d p m r fits q hq);
   fair = r.fair;
   joining = λ q hq joins. let x = r.joining q hq joins in record { of = record x.of { disturbed = true }; is = ap reintegration_disturbed x.is; joiner = x.joiner };
   opened = λ x is. by_open d.reintegration refl x is;
@@ -88,7 +88,7 @@ fault_repair k d p m r who fits = record {
                 (local_of_is new next q mem.0 ∙ (ap (λ (n : ModuleState). n.local) same ∙ sym (local_of_is d j q mem.0)), marks_of_is new next q mem.0 ∙ (ap (λ (n : ModuleState). n.marks) same ∙ sym (marks_of_is d j q mem.0)));
             sizes = λ q hq.
                 ap length (local_of_is new next q hq) ∙
-                ((subst IsModule (sym (replaced_is p m d q hq)) (replaced_module d p m r fits q hq)).local ∙ sym (ap length (local_of_is d j q hq) ∙ (r.modules q hq).local));
+                ((subst (IsModule d.frame) (sym (replaced_is p m d q hq)) (replaced_module d p m r fits q hq)).local ∙ sym (ap length (local_of_is d j q hq) ∙ (r.modules q hq).local));
           }) o.copied;
         })
 
@@ -132,10 +132,10 @@ membership_is d p (suc (suc (suc q))) h = absurd (omega arith)
 out_in : (s : Membership) → s ≡ Out → s ≡ In → ⊥
 out_in s x y = cc
 
-revived_module : (d : TriplexState) (p : ℕ) → RepairInvariant d → (q : ℕ) → q < 3 → IsModule (module_at (revived p d).modules q)
+revived_module : (d : TriplexState) (p : ℕ) → RepairInvariant d → (q : ℕ) → q < 3 → IsModule d.frame (module_at (revived p d).modules q)
 revived_module d p r q hq =
-    subst IsModule (sym (revived_is d p q hq))
-    (replaced_module d p (module_revived (module_at d.modules p)) r (λ hp. let m = r.modules p hp in record { fires = m.fires; local = m.local; marks = m.marks }) q hq)
+    subst (IsModule d.frame) (sym (revived_is d p q hq))
+    (replaced_module d p (module_revived (module_at d.modules p)) r (λ hp. let m = r.modules p hp in record { fires = m.fires; local = m.local; marks = m.marks; frame = m.frame }) q hq)
 
 pub revive_keeps_repair : ReviveKeepsRepair
 revive_keeps_repair k d p s hp out =
@@ -144,9 +144,10 @@ revive_keeps_repair k d p s hp out =
     let first = reintegration_begun p d in
     repair_step k d (revived p d) no_effects
     (act_invariant k d (revived p d) (can_step k d s)
-    (record { ticks = refl; resumed = refl; resumed_run = refl; halt = refl; global = refl; device = refl; good = λ q hq g. g; modules = λ q hq g. stays q hq (ne q tainted g) }) refl refl
+    (record { frame = refl; ticks = refl; resumed = refl; resumed_run = refl; halt = refl; global = refl; device = refl; good = λ q hq g. g; modules = λ q hq g. stays q hq (ne q tainted g) }) refl refl
     (record {
       frame = h.frame;
+      timer = h.timer;
       members = λ q hq. by_membership q (p == q) refl (h.members q hq) ∙ ap is_in (sym (membership_is d p q hq));
       voter = h.voter;
       good = λ q hq g.

@@ -1,5 +1,5 @@
 -- A module that asks for what was agreed, and its answer; and the same cycle on the reference machine.
-use Rattle.std.proofs.Common.{◌≡◌, ℕ, suc, ◌+◌, ◌^◌, ◌<◌, ◌≤◌, List, [], ◌∷◌, ◌++◌, refl, sym, ap, subst, inl, inr, arith}
+use Rattle.std.proofs.Common.{◌≡◌, ℕ, suc, ◌+◌, ◌^◌, ◌<◌, ◌≤◌, List, [], ◌∷◌, ◌++◌, refl, sym, ap, subst, ◌∙◌, inl, inr, arith}
 use Rattle.std.specs.declared.option.Option.{Option}
 use Rattle.std.specs.Prelude.{Bool, true, false, nat_le, None, ◌⊎◌, if◌then◌else◌}
 use Rattle.std.proofs.lemmas.Bool.Decides.{nat_tests}
@@ -12,7 +12,8 @@ use Rattle.s2_device.specs.DeviceState.{Device, device_after, lines_of}
 use Rattle.s2_cpu.specs.Processor.{Processor}
 use Rattle.s2_machine.specs.Cores.{core_cycle_by, halt_after, is_sync}
 use Rattle.s2_machine.specs.Machine.{Machine}
-use Rattle.s2_machine.specs.MachineRun.{RunState, after_due_deliveries, bytes_of, core_run_of_cycles}
+use Rattle.s2_machine.specs.MachineRun.{RunState, after_due_deliveries, bytes_of, core_after_cycle, core_run_of_cycles, later_deliveries}
+use Rattle.s2_machine.specs.declared.deliveries.Delivery.{Delivery}
 use Rattle.s2_machine.specs.OutsideAccess.{AccessResult}
 use Rattle.s2_machine.specs.WriteBack.{with_lines}
 use Rattle.s2_machine.specs.declared.ask.Ask.{Ask}
@@ -53,7 +54,7 @@ answer_finishes k r word lines m h =
 
 -- after a load or a store, and after a frame's end
 abbrev pub replica_after_access : TriplexCore → ℕ → ℕ → Replica → Replica
-replica_after_access k word lines s = let p = k.core.after_finish s.cpu s.local word lines in record { cpu = p; local = s.local; due = is_frame_end k.frame p.run }
+replica_after_access k word lines s = let p = k.core.after_finish s.cpu s.local word lines in record { cpu = p; local = s.local; due = is_frame_end s.frame p.run; frame = s.frame }
 
 abbrev pub replica_after_sync : ℕ → Replica → Replica
 replica_after_sync lines s = record s { cpu = with_lines s.cpu lines; due = false }
@@ -74,7 +75,8 @@ pub record CycleEnds (k : TriplexCore) (s t : Replica) (lines : ℕ) : Type 0 wh
   pub run : t.cpu.run ≤ s.cpu.run + 1
   pub same : s.cpu.run ≤ t.cpu.run
   pub lines_are : t.cpu.lines ≡ lines
-  pub ends : t.due ≡ true → is_frame_end k.frame t.cpu.run ≡ true
+  pub frame : t.frame ≡ s.frame
+  pub ends : t.due ≡ true → is_frame_end s.frame t.cpu.run ≡ true
 
 pub cycle_ends : (k : TriplexCore) (c : IsTriplexCore k) (r : Request) (word lines : ℕ) (s : Replica) → s.cpu.run + 1 < 2 ^ 64 → replica_ask k s ≡ Outside r → CycleEnds k s (finished_replica k r.kind word lines s) lines
 cycle_ends k c r word lines s room h = elim (asks_cases k c s r h) [
@@ -83,12 +85,12 @@ cycle_ends k c r word lines s room h = elim (asks_cases k c s r h) [
 ]
   where
     at_end : CycleEnds k s (replica_after_sync lines s) lines
-    at_end = record { run = omega arith; same = omega arith; lines_are = refl; ends = λ x. absurd cc }
+    at_end = record { run = omega arith; same = omega arith; lines_are = refl; frame = refl; ends = λ x. absurd cc }
 
     at_access : AsksAccess k s r → CycleEnds k s (replica_after_access k word lines s) lines
     at_access a =
         let run = c.core.run_after_finish s.cpu s.local r word lines a.asks in
-        record { run = omega arith; same = omega arith; lines_are = c.core.lines_after_finish s.cpu s.local r word lines a.asks; ends = λ x. x }
+        record { run = omega arith; same = omega arith; lines_are = c.core.lines_after_finish s.cpu s.local r word lines a.asks; frame = refl; ends = λ x. x }
 
 -- the reference machine does the same access
 abbrev pub with_access : TriplexCore → List ℕ → Device → Request → Replica → Machine
@@ -130,15 +132,39 @@ run_machine s g dv halt = record { cpu = s.cpu; local = s.local; global = g; dev
 abbrev access_run : Replica → List ℕ → Option ℕ → AccessResult → RunState
 access_run t h halt a = record { machine = run_machine t h a.device (halt_after halt a.halt); bytes = bytes_of a.out }
 
-pub access_between : (k : TriplexCore) (n run : ℕ) (g h : List ℕ) (dv : Device) (halt : Option ℕ) (s t : Replica) (r : Request) → k.core.ask_of s.cpu s.local ≡ Outside r → n ≡ 1 → halt ≡ None →
-    h ≡ (k.core.access g dv r).global → t ≡ replica_after_access k (k.core.access g dv r).word (lines_of (k.core.access g dv r).device) s →
-    core_run_of_cycles k.core n run (at_rest (run_machine s g dv halt)) [] ≡ access_run t h halt (k.core.access g dv r)
-access_between k n run g h dv halt s t r asks one running same is =
-    subst (λ (i : ℕ). core_run_of_cycles k.core i run (at_rest (run_machine s g dv halt)) [] ≡ access_run t h halt (k.core.access g dv r)) (sym one)
-    (subst (λ (v : Option ℕ). core_run_of_cycles k.core 1 run (at_rest (run_machine s g dv v)) [] ≡ access_run t h v (k.core.access g dv r)) (sym running)
-    (subst (λ (v : List ℕ). core_run_of_cycles k.core 1 run (at_rest (run_machine s g dv None)) [] ≡ access_run t v None (k.core.access g dv r)) (sym same)
-    (subst (λ (v : Replica). core_run_of_cycles k.core 1 run (at_rest (run_machine s g dv None)) [] ≡ access_run v (k.core.access g dv r).global None (k.core.access g dv r)) (sym is)
-    (run_of_access k run g dv s r asks))))
+-- no delivery is left for later
+none_later : (es : List Event) (run : ℕ) → later_deliveries run (deliveries_at run es) ≡ []
+none_later [] run = refl
+none_later (e ∷ es) run = subst (λ (b : Bool). (if b then later_deliveries run (deliveries_at run es) else record { run = run; event = e } ∷ deliveries_at run es) ≡ []) (sym (le_self run)) (none_later es run)
+
+-- events that leave the lines
+delivered_quietly : (es : List Event) (run : ℕ) (g : List ℕ) (dv : Device) (s : Replica) → s.cpu.lines ≡ lines_of dv → lines_of (device_after_events dv es) ≡ lines_of dv →
+    after_due_deliveries (at_rest (run_machine s g dv None)) run (deliveries_at run es) ≡ at_rest (run_machine s g (device_after_events dv es) None)
+delivered_quietly es run g dv s lines same =
+    all_delivered es run s.cpu s.local g dv lines ∙
+    ap (λ (l : ℕ). at_rest (record { cpu = with_lines s.cpu l; local = s.local; global = g; device = device_after_events dv es; halt = None })) (same ∙ sym lines)
+
+-- the access after them
+access_after_events : (k : TriplexCore) (run : ℕ) (g : List ℕ) (dv : Device) (s : Replica) (r : Request) (es : List Event) → k.core.ask_of s.cpu s.local ≡ Outside r → s.cpu.lines ≡ lines_of dv → lines_of (device_after_events dv es) ≡ lines_of dv →
+    core_run_of_cycles k.core 1 run (at_rest (run_machine s g dv None)) (deliveries_at run es) ≡
+    record { machine = with_access k g (device_after_events dv es) r s; bytes = bytes_of (k.core.access g (device_after_events dv es) r).out }
+access_after_events k run g dv s r es asks lines same =
+    ap (λ (x : RunState). core_run_of_cycles k.core 0 (suc run) (core_after_cycle k.core x) (later_deliveries run (deliveries_at run es))) (delivered_quietly es run g dv s lines same) ∙
+    (ap (λ (ds : List Delivery). core_run_of_cycles k.core 0 (suc run) (core_after_cycle k.core (at_rest (run_machine s g (device_after_events dv es) None))) ds) (none_later es run) ∙
+    run_of_access k run g (device_after_events dv es) s r asks)
+
+pub access_between : (k : TriplexCore) (n run at : ℕ) (g h : List ℕ) (dv : Device) (halt : Option ℕ) (s t : Replica) (r : Request) (es : List Event) → k.core.ask_of s.cpu s.local ≡ Outside r → n ≡ 1 → at ≡ run → halt ≡ None →
+    s.cpu.lines ≡ lines_of dv → lines_of (device_after_events dv es) ≡ lines_of dv → h ≡ (k.core.access g (device_after_events dv es) r).global →
+    t ≡ replica_after_access k (k.core.access g (device_after_events dv es) r).word (lines_of (k.core.access g (device_after_events dv es) r).device) s →
+    core_run_of_cycles k.core n run (at_rest (run_machine s g dv halt)) (deliveries_at at es) ≡ access_run t h halt (k.core.access g (device_after_events dv es) r)
+access_between k n run at g h dv halt s t r es asks one here running lines quiet same is =
+    let a = k.core.access g (device_after_events dv es) r in
+    subst (λ (i : ℕ). core_run_of_cycles k.core i run (at_rest (run_machine s g dv halt)) (deliveries_at at es) ≡ access_run t h halt a) (sym one)
+    (subst (λ (v : ℕ). core_run_of_cycles k.core 1 run (at_rest (run_machine s g dv halt)) (deliveries_at v es) ≡ access_run t h halt a) (sym here)
+    (subst (λ (v : Option ℕ). core_run_of_cycles k.core 1 run (at_rest (run_machine s g dv v)) (deliveries_at run es) ≡ access_run t h v a) (sym running)
+    (subst (λ (v : List ℕ). core_run_of_cycles k.core 1 run (at_rest (run_machine s g dv None)) (deliveries_at run es) ≡ access_run t v None a) (sym same)
+    (subst (λ (v : Replica). core_run_of_cycles k.core 1 run (at_rest (run_machine s g dv None)) (deliveries_at run es) ≡ access_run v a.global None a) (sym is)
+    (access_after_events k run g dv s r es asks lines quiet)))))
 
 pub sync_between : (k : TriplexCore) (n run at : ℕ) (g : List ℕ) (dv : Device) (halt : Option ℕ) (s t : Replica) (es : List Event) → n ≡ 0 → at ≡ run → halt ≡ None → s.cpu.lines ≡ lines_of dv →
     t ≡ replica_after_sync (lines_of (device_after_events dv es)) s →

@@ -7,7 +7,7 @@ use Rattle.s2_clock.specs.declared.numbers.TheConstants.{MISSES_ALLOWED, REFRESH
 use Rattle.s2_clock.specs.declared.watch.Slow.{Slow}
 use Rattle.s2_clock.specs.TickWindow.{misses_in, window_after}
 use Rattle.s2_clock.specs.ClockWatch.{is_firing, is_tainted, is_recorded_as_fired, window_at, slow_of}
-use Rattle.s2_voter.specs.declared.voter.TheConstants.{DECISION_TIMER}
+use Rattle.s2_voter.specs.Timers.{timer_of}
 use Rattle.s2_voter.specs.VoterState.{is_member, latch_of, has_two_latches}
 use Rattle.s2_machine.specs.declared.ask.Ask.{Ask}
 use Rattle.s2_machine.specs.declared.ask.Ask.TheVariants.{Local, Outside}
@@ -48,12 +48,12 @@ latched_is d (suc (suc zero)) h = refl
 latched_is d (suc (suc (suc p))) h = absurd (omega arith)
 
 -- when each good processor asks
-pub all_ask : (k : TriplexCore) (c : IsTriplexCore k) (d : TriplexState) (a : ReplicaEquality k d) (next : NextRequest (asks_from k a.start) k.frame) → AllAsk (asks_of k d) (next.cycles + 1) (skew_data d)
+pub all_ask : (k : TriplexCore) (c : IsTriplexCore k) (d : TriplexState) (a : ReplicaEquality k d) (next : NextRequest (asks_from k a.start) d.frame) → AllAsk (asks_of k d) (next.cycles + 1) (skew_data d)
 all_ask k c d a next p hp g =
     let x = a.each p hp g in
     let run = run_of_reached k c d a p hp g in
     let at = a.at in
-    let iff = asks_iff k a.start next x.cycles x.quiet in
+    let iff = asks_iff k d.frame a.start next x.cycles x.quiet in
     let is : asks_of k d p ≡ asks_from k a.start x.cycles = ap (λ (s : Replica). is_outside (replica_ask k s)) x.is in
     let clock = ap (λ (c : ClockData). c.run) (clock_is d p hp) in
     (λ asks. let e = iff.0 (sym is ∙ asks) in omega arith, λ to. is ∙ iff.1 (omega arith))
@@ -170,13 +170,13 @@ two_is None (Some y) None = refl
 two_is None None (Some z) = refl
 two_is None None None = refl
 
-age_next : (k : TriplexCore) (d : TriplexState) (mask : ℕ) → IsBeforeTimer DECISION_TIMER d.voter.age → (after_firings k d mask).voter.age ≡ age_after d.voter.age (are_two_latched (skew_data (after_firings k d mask)).latched)
-age_next k d mask before =
+age_next : (k : TriplexCore) (d : TriplexState) (mask : ℕ) → d.voter.timer ≡ timer_of d.frame → IsBeforeTimer (timer_of d.frame) d.voter.age → (after_firings k d mask).voter.age ≡ age_after d.voter.age (are_two_latched (skew_data (after_firings k d mask)).latched)
+age_next k d mask timer before =
     let v = (after_firings k d mask).voter in
-    voter_timer.grows d.voter.age (has_two_latches v.latches) before ∙ ap (age_after d.voter.age) (two_is (latch_of v 0) (latch_of v 1) (latch_of v 2))
+    voter_timer.grows d.voter.timer d.voter.age (has_two_latches v.latches) (subst (λ (t : ℕ). IsBeforeTimer t d.voter.age) (sym timer) before) ∙ ap (age_after d.voter.age) (two_is (latch_of v 0) (latch_of v 1) (latch_of v 2))
 
 pub tick_of_clocks : (k : TriplexCore) (c : IsTriplexCore k) (d : TriplexState) (mask : ℕ) → LatchAgreement k d → ReplicaEquality k d → tick_refusal d mask ≡ None →
-    IsTickOf DECISION_TIMER (asks_of k d) mask (skew_data d) (skew_data (after_firings k d mask))
+    IsTickOf (timer_of d.frame) (asks_of k d) mask (skew_data d) (skew_data (after_firings k d mask))
 tick_of_clocks k c d mask h a lawful = record {
   ticks = refl;
   resumed = refl;
@@ -188,5 +188,5 @@ tick_of_clocks k c d mask h a lawful = record {
   latches = λ p hp g.
       latched_is (after_firings k d mask) p hp ∙
       (ap (λ (l : Option Posted). is_some l) ((firings_agree k c d mask h).good p hp g).latch ∙ sym (ap (λ (z : ClockData). z.full) (clock_is (after_firings k d mask) p hp)));
-  age = age_next k d mask;
+  age = age_next k d mask h.timer;
 }

@@ -34,7 +34,7 @@ order_there run (e ∷ es) = (due_there run es, order_there run es)
 
 kind_order : (k : TriplexCore) (d : TriplexState) (r : Request) (kind : Kind) → AreInRunOrder (access_of_kind k d r kind).deliveries
 kind_order k d r Load = tt
-kind_order k d r Store = tt
+kind_order k d r Store = order_there r.run _
 kind_order k d r Sync = order_there r.run _
 
 verdict_order : (k : TriplexCore) (d : TriplexState) (v : Verdict) → AreInRunOrder (after_verdict k d v).effects.deliveries

@@ -1,10 +1,12 @@
 -- Events are delivered in the order in which they were accepted, and none that all good processors saw waits on.
-use Rattle.std.proofs.Common.{◌≡◌, ℕ, ◌+◌, ◌-◌, ◌<◌, ◌≤◌, List, [], ◌∷◌, ◌++◌, length, take, drop, refl, sym, ap, subst, inl, inr, ◌∙◌, arith}
+use Rattle.std.proofs.Common.{◌≡◌, ℕ, zero, suc, ◌+◌, ◌-◌, ◌<◌, ◌≤◌, List, [], ◌∷◌, ◌++◌, length, take, drop, refl, sym, ap, subst, inl, inr, ◌∙◌, arith}
 use Rattle.std.specs.Prelude.{Bool, true, false, ◌⊎◌, nat_lt, nat_le, slice_index, Some, None, if◌then◌else◌}
 use Rattle.std.specs.declared.option.Option.{Option}
 use Rattle.std.proofs.lemmas.List.{append-nil, take-append-drop}
 use Rattle.std.proofs.lemmas.Bool.Decides.{nat_tests}
+use Rattle.s2_base.specs.Map.{place_at}
 use Rattle.s2_ports.specs.declared.events.Event.{Event}
+use Rattle.s2_ports.specs.declared.events.Event.TheVariants.{Private}
 use Rattle.s2_ports.specs.declared.requests.Request.{Request}
 use Rattle.s2_ports.specs.declared.requests.Kind.{Kind}
 use Rattle.s2_ports.specs.declared.requests.Kind.TheVariants.{Load, Store, Sync}
@@ -19,11 +21,13 @@ use Rattle.s2_join.specs.declared.item.Item.{Item}
 use Rattle.s2_join.specs.declared.item.Item.TheVariants.{Local, Saved}
 use Rattle.s2_join.specs.CopyOrder.{is_last_item}
 use Rattle.s2_machine.specs.Cores.{is_sync}
-use Rattle.s2_script.specs.declared.entry.Act.TheVariants.{Event as EventAct, Poke, PokeLocal, Drive, Mute, Remove, Revive, Board}
+use Rattle.s2_machine.specs.PrivateArea.{is_private_place}
+use Rattle.s2_script.specs.declared.entry.Act.TheVariants.{Event as EventAct, Poke, PokeLocal, Drive, Mute, Remove, Revive, Board, Mend}
 use Rattle.s2_triplex.specs.declared.numbers.TheConstants.{INBOX_EVENTS}
 use Rattle.s2_triplex.specs.TriplexCores.{TriplexCore}
 use Rattle.s2_triplex.specs.TriplexState.{TriplexState, Reintegration}
 use Rattle.s2_triplex.specs.VotedAccess.{deliveries_at, seen_of, seen_in, access_of_kind}
+use Rattle.s2_triplex.specs.WaitingEvents.{AreFromOutside, from_outside}
 use Rattle.s2_triplex.specs.TickFirings.{after_firings}
 use Rattle.s2_triplex.specs.VoterDecision.{no_effects, after_verdict, tick_verdict, voted, is_sync_verdict}
 use Rattle.s2_triplex.specs.CopyHolds.{hold_begun, hold_begun_if, is_holding, after_idle_tick, saved_word_copied, item_copied, copied, after_hold_tick}
@@ -39,17 +43,32 @@ events_at : (run : ℕ) (es : List Event) → events_of (deliveries_at run es) �
 events_at run [] = refl
 events_at run (e ∷ es) = ap (λ (xs : List Event). e ∷ xs) (events_at run es)
 
-access_in_order : (k : TriplexCore) (d : TriplexState) (r : Request) (kind : Kind) → events_of (access_of_kind k d r kind).deliveries ++ (access_of_kind k d r kind).inbox ≡ d.inbox
-access_in_order k d r Sync =
-    let n = agreed_count (seen_in d.voter r) d.delivered - d.delivered in
-    ap (λ (xs : List Event). xs ++ drop n d.inbox) (events_at r.run (take n d.inbox)) ∙ take-append-drop n d.inbox
-access_in_order k d r Load = refl
-access_in_order k d r Store = refl
+all_outside : (es : List Event) → AreFromOutside es → from_outside es ≡ es
+all_outside [] h = refl
+all_outside (e ∷ es) h = subst (λ (b : Bool). (if b then e ∷ from_outside es else from_outside es) ≡ e ∷ es) (sym h.0) (ap (λ (xs : List Event). e ∷ xs) (all_outside es h.1))
 
-verdict_in_order : (k : TriplexCore) (d : TriplexState) (v : Verdict) → events_of (after_verdict k d v).effects.deliveries ++ (after_verdict k d v).next.inbox ≡ d.inbox
-verdict_in_order k d Waiting = refl
-verdict_in_order k d Split = refl
-verdict_in_order k d (Done r differ late) = access_in_order k d r r.kind
+pub take_outside : (n : ℕ) (es : List Event) → AreFromOutside es → AreFromOutside (take n es)
+take_outside zero es h = tt
+take_outside (suc n) [] h = tt
+take_outside (suc n) (e ∷ es) h = (h.0, take_outside n es h.1)
+
+-- private values do not come from outside
+none_outside : (run : ℕ) (b : Bool) (x y z : ℕ) → from_outside (events_of (deliveries_at run (if b then Private x y z ∷ [] else []))) ≡ []
+none_outside run true x y z = refl
+none_outside run false x y z = refl
+
+access_in_order : (k : TriplexCore) (d : TriplexState) (r : Request) (kind : Kind) → AreFromOutside d.inbox → from_outside (events_of (access_of_kind k d r kind).deliveries) ++ (access_of_kind k d r kind).inbox ≡ d.inbox
+access_in_order k d r Sync h =
+    let n = agreed_count (seen_in d.voter r) d.delivered - d.delivered in
+    ap (λ (xs : List Event). from_outside xs ++ drop n d.inbox) (events_at r.run (take n d.inbox)) ∙
+    (ap (λ (xs : List Event). xs ++ drop n d.inbox) (all_outside (take n d.inbox) (take_outside n d.inbox h)) ∙ take-append-drop n d.inbox)
+access_in_order k d r Load h = refl
+access_in_order k d r Store h = ap (λ (xs : List Event). xs ++ d.inbox) (none_outside r.run (is_private_place (place_at r.address)) _ _ _)
+
+verdict_in_order : (k : TriplexCore) (d : TriplexState) (v : Verdict) → AreFromOutside d.inbox → from_outside (events_of (after_verdict k d v).effects.deliveries) ++ (after_verdict k d v).next.inbox ≡ d.inbox
+verdict_in_order k d Waiting h = refl
+verdict_in_order k d Split h = refl
+verdict_in_order k d (Done r differ late) h = access_in_order k d r r.kind h
 
 -- a reintegration leaves them
 begun_inbox : (d : TriplexState) (o : Option Reintegration) → (hold_begun d o).inbox ≡ d.inbox
@@ -74,13 +93,13 @@ copied_inbox d None = refl
 copied_inbox d (Some j) = item_inbox d j j.copying.left
 
 pub ticks_in_order : TicksDeliverInOrder
-ticks_in_order k d mask = by_hold (is_holding d.reintegration)
+ticks_in_order k d mask h = by_hold (is_holding d.reintegration)
   where
-    by_hold : (b : Bool) → let s = if b then record { next = after_hold_tick d mask; effects = no_effects } else after_working_tick k d mask in events_of s.effects.deliveries ++ s.next.inbox ≡ d.inbox
+    by_hold : (b : Bool) → let s = if b then record { next = after_hold_tick d mask; effects = no_effects } else after_working_tick k d mask in from_outside (events_of s.effects.deliveries) ++ s.next.inbox ≡ d.inbox
     by_hold true = copied_inbox (after_idle_tick d mask) d.reintegration
     by_hold false =
-        ap (λ (xs : List Event). events_of (voted k d mask).effects.deliveries ++ xs) (begun_if_inbox (is_sync_verdict (tick_verdict k d mask)) (voted k d mask).next) ∙
-        verdict_in_order k (after_firings k d mask) (tick_verdict k d mask)
+        ap (λ (xs : List Event). from_outside (events_of (voted k d mask).effects.deliveries) ++ xs) (begun_if_inbox (is_sync_verdict (tick_verdict k d mask)) (voted k d mask).next) ∙
+        verdict_in_order k (after_firings k d mask) (tick_verdict k d mask) h
 
 -- acts
 received_inbox : (b : Bool) (d : TriplexState) (event : Event) → (if b then record d { inbox = d.inbox ++ event ∷ []; accepted = d.accepted + 1 } else d).inbox ≡ d.inbox ++ (if b then event ∷ [] else [])
@@ -100,6 +119,7 @@ acts_in_order d (Mute p) = sym (append-nil d.inbox)
 acts_in_order d (Remove p) = sym (append-nil d.inbox)
 acts_in_order d (Revive p) = revived_inbox (is_revivable p d) p d ∙ sym (append-nil d.inbox)
 acts_in_order d (Board fault) = sym (append-nil d.inbox)
+acts_in_order d (Mend board) = sym (append-nil d.inbox)
 
 -- the lower median of counts of which two reach a number reaches it
 two_reach : (n a b : ℕ) → n ≤ a → n ≤ b → n ≤ lower_median (a ∷ b ∷ [])
@@ -180,7 +200,7 @@ reach_last n xs ys zs a b c =
     ]))
 
 -- a frame's end moves the count of delivered events to the agreed one
-delivered_by : (k : TriplexCore) (d : TriplexState) (r : Request) (kind : Kind) → is_sync kind ≡ true → (access_of_kind k d r kind).delivered ≡ agreed_count (seen_in d.voter r) d.delivered
+pub delivered_by : (k : TriplexCore) (d : TriplexState) (r : Request) (kind : Kind) → is_sync kind ≡ true → (access_of_kind k d r kind).delivered ≡ agreed_count (seen_in d.voter r) d.delivered
 delivered_by k d r Sync h = refl
 delivered_by k d r Load h = absurd cc
 delivered_by k d r Store h = absurd cc

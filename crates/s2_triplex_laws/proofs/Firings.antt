@@ -112,6 +112,7 @@ firings_agree k c d mask h = record {
   good = λ p hp g. member_next k c d mask p hp g h;
   inbox = h.inbox;
   frame = h.frame;
+  timer = h.timer;
   boards = h.boards;
   room = h.room;
 }
@@ -161,6 +162,7 @@ further_at k d mask a p hp g = reached_further k d.accepted d.resumed d.ticks a.
 firings_equal : (k : TriplexCore) (d : TriplexState) (mask : ℕ) (a : ReplicaEquality k d) → d.ticks < 2 ^ 40 → ReplicaEquality k (after_firings k d mask)
 firings_equal k d mask a room = record {
   start = a.start;
+  frame = a.frame;
   at = a.at;
   ends = a.ends;
   low = a.low;
@@ -173,6 +175,7 @@ unfolding firings_equal
 firings_go_on k c d mask a room halt = record {
   replicas = firings_equal k d mask a room;
   continues = record {
+    frame = refl;
     start = refl;
     halt = halt;
     still = halt;

@@ -191,7 +191,7 @@ hold_begun_keeps_repair k d j h a r is now due rest =
       modules = λ p hp.
           let c = clears_at d j p hp in
           let m = r.modules p hp in
-          record { fires = subst (λ (f : ℕ). f < 256) (sym c.fires) m.fires; local = ap (λ (s : Replica). length s.local) c.replica ∙ m.local; marks = c.size m.marks };
+          record { fires = subst (λ (f : ℕ). f < 256) (sym c.fires) m.fires; local = ap (λ (s : Replica). length s.local) c.replica ∙ m.local; marks = c.size m.marks; frame = ap (λ (s : Replica). s.frame) c.replica ∙ m.frame };
       fair = r.fair;
       joining = λ p hp joins. let x = r.joining p hp joins in record { of = next; is = refl; joiner = joiner_same d j ∙ (ap (λ (y : Reintegration). y.copying.joiner) (some_is j x.of (sym is ∙ x.is)) ∙ x.joiner) };
       opened = λ x x_is.
@@ -216,6 +216,7 @@ hold_begun_keeps_repair k d j h a r is now due rest =
 pub hold_begun_agrees : (k : TriplexCore) (d : TriplexState) (j : Reintegration) → LatchAgreement k d → LatchAgreement k (hold_begun d (Some j))
 hold_begun_agrees k d j h = record {
   frame = h.frame;
+  timer = h.timer;
   members = h.members;
   voter = h.voter;
   good = λ p hp g.
@@ -236,6 +237,7 @@ hold_begun_agrees k d j h = record {
 unfoldable pub hold_begun_equal : (k : TriplexCore) (d : TriplexState) (j : Reintegration) → ReplicaEquality k d → ReplicaEquality k (hold_begun d (Some j))
 hold_begun_equal k d j a = record {
   start = a.start;
+  frame = a.frame;
   at = a.at;
   ends = a.ends;
   low = a.low;

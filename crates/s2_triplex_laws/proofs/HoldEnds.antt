@@ -92,9 +92,11 @@ joined_replica k d j x q hq g =
       | inl good ↦ ap (λ (s : Replica). s.local) (now_replica k d x.replicas x.hold.now q hq good ∙ sym at)
       | inr new ↦ subst (λ (p : ℕ). (module_at d.modules p).local ≡ (module_at d.modules (lowest_member d.voter)).local) new.0 (local_is k d j x new.1)
     ] in
+    let frame : (module_at d.modules q).frame ≡ (module_at d.modules (lowest_member d.voter)).frame = (x.repair.modules q hq).frame ∙ sym (x.repair.modules (lowest_member d.voter) l.low).frame in
     ap replica_of (restored_is d j q hq) ∙
-    (ap (λ (xs : List ℕ). record { cpu = (module_at d.modules (lowest_member d.voter)).cpu; local = xs; due = false }) same ∙
-    (ap (λ (s : Replica). record { cpu = s.cpu; local = s.local; due = false }) at ∙ ap (λ (b : Bool). record { cpu = x.replicas.start.cpu; local = x.replicas.start.local; due = b }) (sym due)))
+    (ap (λ (f : ℕ). record { cpu = (module_at d.modules (lowest_member d.voter)).cpu; local = (module_at d.modules q).local; due = false; frame = f }) frame ∙
+    (ap (λ (xs : List ℕ). record { cpu = (module_at d.modules (lowest_member d.voter)).cpu; local = xs; due = false; frame = (module_at d.modules (lowest_member d.voter)).frame }) same ∙
+    (ap (λ (s : Replica). record { cpu = s.cpu; local = s.local; due = false; frame = s.frame }) at ∙ ap (λ (b : Bool). record { cpu = x.replicas.start.cpu; local = x.replicas.start.local; due = b; frame = x.replicas.start.frame }) (sym due))))
 
 joined_in : (d : TriplexState) (j : Reintegration) (q : ℕ) → q < 3 → (IsGood d q → membership_at d.memberships q ≡ In) → (IsGood d q) ⊎ (j.copying.joiner ≡ q) → membership_at (joined d j).memberships q ≡ In
 joined_in d j q hq old (inl g) = membership_is d j q hq ∙ by_test (j.copying.joiner == q) (old g)
@@ -113,7 +115,7 @@ beyond (x ∷ y ∷ []) q h = absurd (omega arith)
 beyond (x ∷ y ∷ z ∷ w ∷ ls) q h = absurd (omega arith)
 
 joined_voter : (k : TriplexCore) (d : TriplexState) (j : Reintegration) → AtLastWord k d j → IsVoter (joined d j).voter
-joined_voter k d j x = let v = x.agreement.voter in record { members = refl; latches = v.latches; latched = λ p some. by_place p some; aged = v.aged; age = v.age }
+joined_voter k d j x = let v = x.agreement.voter in record { members = refl; latches = v.latches; latched = λ p some. by_place p some; aged = v.aged; age = v.age; timer = v.timer }
   where
     none_at : (p : ℕ) → p < 3 → is_some (latch_of d.voter p) ≡ false
     none_at p low = no_latch k d j x.agreement x.replicas x.open_now x.hold.now p low
@@ -132,6 +134,7 @@ joined_agrees k d j x =
     let at = now_replica k d x.replicas x.hold.now (lowest_member d.voter) l.low l.good in
     record {
       frame = h.frame;
+      timer = h.timer;
       members = λ p hp. member_is d j p hp ∙ (by_member (j.copying.joiner == p) (membership_at d.memberships p) (is_member d.voter p) (h.members p hp) ∙ ap is_in (sym (membership_is d j p hp)));
       voter = joined_voter k d j x;
       good = λ q hq g.
@@ -162,6 +165,7 @@ joined_equal k d j x =
     let now = x.hold.now in
     record {
       start = a.start;
+      frame = a.frame;
       at = a.at;
       ends = a.ends;
       low = a.low;
@@ -176,7 +180,7 @@ joined_keeps_repair d j r is = record {
   modules = λ p hp.
       let was = restored_is d j p hp in
       let m = r.modules p hp in
-      record { fires = subst (λ (n : ModuleState). n.fires < 256) (sym was) m.fires; local = ap (λ (n : ModuleState). length n.local) was ∙ m.local; marks = ap (λ (n : ModuleState). length n.marks) was ∙ no_marks_length };
+      record { fires = subst (λ (n : ModuleState). n.fires < 256) (sym was) m.fires; local = ap (λ (n : ModuleState). length n.local) was ∙ m.local; marks = ap (λ (n : ModuleState). length n.marks) was ∙ no_marks_length; frame = ap (λ (n : ModuleState). n.frame) was ∙ m.frame };
   fair = r.fair;
   joining = λ p hp joins. absurd (by_place p hp (j.copying.joiner == p) refl (sym (membership_is d j p hp) ∙ joins));
   opened = λ x none. absurd (none_open x none);

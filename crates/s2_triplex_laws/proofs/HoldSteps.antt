@@ -1,10 +1,10 @@
 -- The ticks of a hold as steps: all is kept, and the reference machine stays.
 use Rattle.std.proofs.Common.{◌≡◌, ℕ, ◌-◌, ◌^◌, ◌<◌, List, [], ◌∷◌, ◌++◌, refl, sym, ap, subst, inl, ◌∙◌, arith}
 use Rattle.std.specs.Prelude.{Some, None, ◌+◌}
-use Rattle.s2_voter.specs.declared.voter.TheConstants.{DECISION_TIMER}
+use Rattle.s2_voter.specs.Timers.{timer_of}
 use Rattle.s2_machine.specs.MachineRun.{bytes_of, core_machine_run}
 use Rattle.s2_machine.specs.declared.deliveries.Delivery.{Delivery}
-use Rattle.s2_duplex.specs.DuplexBoards.{contents}
+use Rattle.s2_revive.specs.MendingBoards.{memory_of}
 use Rattle.s2_plant_laws.specs.BoundedSkew.{SkewData, BoundedSkew}
 use Rattle.s2_triplex.specs.TriplexCores.{TriplexCore, IsTriplexCore}
 use Rattle.s2_triplex.specs.ModuleState.{Replica, replica_of, after_local_cycles}
@@ -67,6 +67,7 @@ unfolding hold_begun_equal
 hold_begun_goes_on k d j s = record {
   replicas = hold_begun_equal k d j s.invariant.masking.replicas;
   continues = record {
+    frame = refl;
     start = refl;
     halt = s.halt;
     still = s.halt;
@@ -84,7 +85,7 @@ hold_begun_invariant k d j s =
     let h = hold_begun_agrees k d j s.invariant.masking.agreement in
     let o = hold_begun_goes_on k d j s in
     record {
-      invariant = goes_on_keeps k d e a s.invariant.next h o (subst (λ (x : SkewData). BoundedSkew DECISION_TIMER (s.invariant.next.cycles + 1) x) (sym (skew_same d j)) s.invariant.skew);
+      invariant = goes_on_keeps k d e a s.invariant.next h o (subst (λ (x : SkewData). BoundedSkew (timer_of d.frame) (s.invariant.next.cycles + 1) x) (sym (skew_same d j)) s.invariant.skew);
       advance = (step_masks k s.core d e a h o).advance;
     }
 
@@ -94,6 +95,7 @@ unfolding idle_equal
 idle_goes_on k d mask s now room = record {
   replicas = idle_equal k d mask s.invariant.masking.replicas now room;
   continues = record {
+    frame = refl;
     start = refl;
     halt = s.halt;
     still = s.halt;
@@ -122,12 +124,12 @@ idle_invariant k d mask j s room r o now =
 -- a word is copied
 pub word_invariant : (k : TriplexCore) (d : TriplexState) (j : Reintegration) (i : ℕ) → CanStep k d → IsOpenReintegration d j → StepInvariant k d (word_copied d j i) no_effects
 word_invariant k d j i s o =
-    act_invariant k d (word_copied d j i) s (record { ticks = refl; resumed = refl; resumed_run = refl; halt = refl; global = refl; device = refl; good = λ q hq g. g; modules = λ q hq g. copied_other d j i o q hq g }) refl refl
+    act_invariant k d (word_copied d j i) s (record { frame = refl; ticks = refl; resumed = refl; resumed_run = refl; halt = refl; global = refl; device = refl; good = λ q hq g. g; modules = λ q hq g. copied_other d j i o q hq g }) refl refl
     (word_agrees k d j i o s.invariant.masking.agreement) (inl refl)
 
 pub saved_invariant : (k : TriplexCore) (d : TriplexState) (x : Reintegration) → CanStep k d → StepInvariant k d (record d { reintegration = Some x }) no_effects
 saved_invariant k d x s =
-    act_invariant k d (record d { reintegration = Some x }) s (record { ticks = refl; resumed = refl; resumed_run = refl; halt = refl; global = refl; device = refl; good = λ q hq g. g; modules = λ q hq g. refl }) refl refl
+    act_invariant k d (record d { reintegration = Some x }) s (record { frame = refl; ticks = refl; resumed = refl; resumed_run = refl; halt = refl; global = refl; device = refl; good = λ q hq g. g; modules = λ q hq g. refl }) refl refl
     (saved_agrees k d x s.invariant.masking.agreement) (inl refl)
 
 -- the end
@@ -148,7 +150,7 @@ joined_invariant k c d j halt is x =
         from = tt;
         to = tt;
         reference_runs =
-            run_between k (runs e - runs d) (runs d) (contents d.boards) (contents e.boards) d.device e.device d.halt e.halt (module_at d.modules (slowest d.tainted d.modules)) (module_at e.modules (slowest e.tainted e.modules))
+            run_between k (runs e - runs d) (runs d) (memory_of d.boards) (memory_of e.boards) d.device e.device d.halt e.halt (module_at d.modules (slowest d.tainted d.modules)) (module_at e.modules (slowest e.tainted e.modules))
             halt halt refl refl (λ i less. absurd (omega arith)) (iq ∙ (sym ip ∙ ap (λ (n : ℕ). after_local_cycles k n (replica_of (module_at d.modules (slowest d.tainted d.modules)))) (sym none)));
       };
     }

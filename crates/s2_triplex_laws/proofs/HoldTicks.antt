@@ -94,6 +94,7 @@ idles_at d mask p hp = subst (λ (n : ModuleState). IdlesModule (module_at d.mod
 pub idle_agrees : (k : TriplexCore) (d : TriplexState) (mask : ℕ) → LatchAgreement k d → LatchAgreement k (after_idle_tick d mask)
 idle_agrees k d mask h = record {
   frame = h.frame;
+  timer = h.timer;
   members = h.members;
   voter = h.voter;
   good = λ p hp g.
@@ -116,6 +117,7 @@ idle_equal k d mask a now room =
     let low = a.low in
     record {
       start = a.start;
+      frame = a.frame;
       at = a.at;
       ends = a.ends;
       low = omega arith;
@@ -131,7 +133,7 @@ idle_keeps_repair d mask j slow r is holds = record {
   modules = λ p hp.
       let i = idles_at d mask p hp in
       let m = r.modules p hp in
-      record { fires = i.fires m.fires; local = ap (λ (s : Replica). length s.local) i.replica ∙ m.local; marks = ap length i.marks ∙ m.marks };
+      record { fires = i.fires m.fires; local = ap (λ (s : Replica). length s.local) i.replica ∙ m.local; marks = ap length i.marks ∙ m.marks; frame = ap (λ (s : Replica). s.frame) i.replica ∙ m.frame };
   fair = stays_fair mask d.tainted d.windows r.fair slow;
   joining = r.joining;
   opened = λ x x_is.
@@ -146,7 +148,7 @@ idle_keeps_repair d mask j slow r is holds = record {
 }
 
 -- one word is copied
-copied_is : (d : TriplexState) (j : Reintegration) (i p : ℕ) → p < 3 → module_at (word_copied d j i).modules p ≡ word_copied_at d j i p
+pub copied_is : (d : TriplexState) (j : Reintegration) (i p : ℕ) → p < 3 → module_at (word_copied d j i).modules p ≡ word_copied_at d j i p
 copied_is d j i zero h = refl
 copied_is d j i (suc zero) h = refl
 copied_is d j i (suc (suc zero)) h = refl
@@ -173,6 +175,7 @@ copied_same d j i low =
 pub word_agrees : (k : TriplexCore) (d : TriplexState) (j : Reintegration) (i : ℕ) → IsOpenReintegration d j → LatchAgreement k d → LatchAgreement k (word_copied d j i)
 word_agrees k d j i o h = record {
   frame = h.frame;
+  timer = h.timer;
   members = h.members;
   voter = h.voter;
   good = λ q hq g.
@@ -195,10 +198,11 @@ record KeepsSizes (m n : ModuleState) : Type 0 where
   fires : n.fires ≡ m.fires
   local : length n.local ≡ length m.local
   marks : n.marks ≡ m.marks
+  frame : n.frame ≡ m.frame
 
 keeps_sizes : (b : Bool) (i v : ℕ) (m : ModuleState) → KeepsSizes m (word_set_if b i v m)
-keeps_sizes true i v m = record { fires = refl; local = length-set m.local i v; marks = refl }
-keeps_sizes false i v m = record { fires = refl; local = refl; marks = refl }
+keeps_sizes true i v m = record { fires = refl; local = length-set m.local i v; marks = refl; frame = refl }
+keeps_sizes false i v m = record { fires = refl; local = refl; marks = refl; frame = refl }
 
 keeps_at : (d : TriplexState) (j : Reintegration) (i p : ℕ) → p < 3 → KeepsSizes (module_at d.modules p) (module_at (word_copied d j i).modules p)
 keeps_at d j i p hp =
@@ -229,7 +233,7 @@ word_keeps_repair k d j i rest h a r is words =
       modules = λ p hp.
           let s = keeps_at d j i p hp in
           let m = r.modules p hp in
-          record { fires = subst (λ (f : ℕ). f < 256) (sym s.fires) m.fires; local = s.local ∙ m.local; marks = ap length s.marks ∙ m.marks };
+          record { fires = subst (λ (f : ℕ). f < 256) (sym s.fires) m.fires; local = s.local ∙ m.local; marks = ap length s.marks ∙ m.marks; frame = s.frame ∙ m.frame };
       fair = r.fair;
       joining = λ p hp joins. record { of = next; is = refl; joiner = joiner_of j p d.reintegration is (r.joining p hp joins) };
       opened = λ x x_is.
@@ -257,6 +261,7 @@ word_keeps_repair k d j i rest h a r is words =
 pub saved_agrees : (k : TriplexCore) (d : TriplexState) (x : Reintegration) → LatchAgreement k d → LatchAgreement k (record d { reintegration = Some x })
 saved_agrees k d x h = record {
   frame = h.frame;
+  timer = h.timer;
   members = h.members;
   voter = h.voter;
   good = λ q hq g. let t = h.good q hq g in record { membership = t.membership; awake = t.awake; port = t.port; latch = t.latch; lines = t.lines };

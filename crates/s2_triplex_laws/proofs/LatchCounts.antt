@@ -7,7 +7,6 @@ use Rattle.std.proofs.lemmas.List.Sums.{sum_by-cons}
 use Rattle.s2_ports.specs.declared.requests.Posted.{Posted}
 use Rattle.s2_voter.specs.VoterCalls.{older, remaining_age, started_age}
 use Rattle.s2_voter.specs.VoterState.{IsAge, IsVoter, VoterState, has_two_latches, is_member, latch_of}
-use Rattle.s2_voter.specs.declared.voter.TheConstants.{DECISION_TIMER}
 use Rattle.s2_triplex.specs.ActStep.{voter_without}
 use Rattle.s2_triplex.specs.TickFirings.{latch_taken, latched_from}
 
@@ -76,19 +75,19 @@ two_grows false false true x y z ha hb hc h = absurd cc
 two_grows false false false x y z ha hb hc h = absurd cc
 
 -- the age of a tick
-age_next : (age : Option ℕ) (old new : Bool) → (old ≡ true → new ≡ true) → is_some age ≡ old → is_some (started_age new (older age)) ≡ new
-age_next (Some a) old new grows h = sym (grows (sym h))
-age_next None old true grows h = refl
-age_next None old false grows h = refl
+age_next : (timer : ℕ) (age : Option ℕ) (old new : Bool) → (old ≡ true → new ≡ true) → is_some age ≡ old → is_some (started_age new (older timer age)) ≡ new
+age_next timer (Some a) old new grows h = sym (grows (sym h))
+age_next timer None old true grows h = refl
+age_next timer None old false grows h = refl
 
-age_by : (a : ℕ) (less : Bool) → nat_lt a DECISION_TIMER ≡ less → a ≤ DECISION_TIMER → (if less then a + 1 else a) ≤ DECISION_TIMER
-age_by a true e h = grind (arith, nat_tests)
-age_by a false e h = h
+age_by : (timer a : ℕ) (less : Bool) → nat_lt a timer ≡ less → a ≤ timer → (if less then a + 1 else a) ≤ timer
+age_by timer a true e h = grind (arith, nat_tests)
+age_by timer a false e h = h
 
-age_fits : (age : Option ℕ) (two : Bool) → IsAge age → IsAge (started_age two (older age))
-age_fits (Some a) two h = age_by a (nat_lt a DECISION_TIMER) refl h
-age_fits None true h = omega arith
-age_fits None false h = tt
+age_fits : (timer : ℕ) (age : Option ℕ) (two : Bool) → IsAge timer age → IsAge timer (started_age two (older timer age))
+age_fits timer (Some a) two h = age_by timer a (nat_lt a timer) refl h
+age_fits timer None true h = omega arith
+age_fits timer None false h = tt
 
 -- latching
 taken_some : (member : Bool) (l port : Option Posted) → is_some l ≡ true → is_some (latch_taken member l port) ≡ true
@@ -108,13 +107,14 @@ voter_latched ports v h =
       latches = refl;
       latched = λ p some. by_place p some;
       aged =
-          age_next v.age (has_two_latches v.latches) (has_two_latches (latched_from ports v).latches)
+          age_next v.timer v.age (has_two_latches v.latches) (has_two_latches (latched_from ports v).latches)
           (λ two.
           two_three (now 0) (now 1) (now 2) ∙
           two_grows (is_some (latch_of v 0)) (is_some (latch_of v 1)) (is_some (latch_of v 2)) _ _ _ (taken_some (is_member v 0) (latch_of v 0) (ports 0))
           (taken_some (is_member v 1) (latch_of v 1) (ports 1)) (taken_some (is_member v 2) (latch_of v 2) (ports 2)) (sym (two_is v.latches h.latches) ∙ two))
           h.aged;
-      age = age_fits v.age (has_two_latches (latched_from ports v).latches) h.age;
+      age = age_fits v.timer v.age (has_two_latches (latched_from ports v).latches) h.age;
+      timer = h.timer;
     }
   where
     by_place : (p : ℕ) → is_some (latch_of (latched_from ports v) p) ≡ true → is_member v p ≡ true
@@ -136,9 +136,9 @@ age_left : (age : Option ℕ) (old new : Bool) → (new ≡ true → old ≡ tru
 age_left age old true shrinks h = h ∙ shrinks refl
 age_left age old false shrinks h = refl
 
-age_left_fits : (two : Bool) (age : Option ℕ) → IsAge age → IsAge (remaining_age two age)
-age_left_fits true age h = h
-age_left_fits false age h = tt
+age_left_fits : (timer : ℕ) (two : Bool) (age : Option ℕ) → IsAge timer age → IsAge timer (remaining_age two age)
+age_left_fits timer true age h = h
+age_left_fits timer false age h = tt
 
 pub voter_left : (p : ℕ) (v : VoterState) → IsVoter v → IsVoter (voter_without p v)
 voter_left p v h =
@@ -154,7 +154,8 @@ voter_left p v h =
           two_grows (is_some (now 0)) (is_some (now 1)) (is_some (now 2)) _ _ _ (dropped (p == 0) (latch_of v 0)) (dropped (p == 1) (latch_of v 1)) (dropped (p == 2) (latch_of v 2))
           (sym (two_three (now 0) (now 1) (now 2)) ∙ two))
           h.aged;
-      age = age_left_fits (has_two_latches (voter_without p v).latches) v.age h.age;
+      age = age_left_fits v.timer (has_two_latches (voter_without p v).latches) v.age h.age;
+      timer = h.timer;
     }
   where
     by_place : (q : ℕ) → is_some (latch_of (voter_without p v) q) ≡ true → is_member (voter_without p v) q ≡ true

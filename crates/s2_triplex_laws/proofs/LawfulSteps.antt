@@ -9,17 +9,20 @@ use Rattle.s2_ports.specs.declared.requests.Request.{Request}
 use Rattle.s2_ports.specs.declared.requests.Posted.{Posted}
 use Rattle.s2_clock.specs.declared.numbers.TheConstants.{MISSES_ALLOWED, REFRESH_PERIOD}
 use Rattle.s2_clock.specs.TickWindow.{misses_in}
-use Rattle.s2_duplex.specs.ToleratedFaults.{is_tolerated, faulty_board}
+use Rattle.s2_duplex.specs.ToleratedFaults.{faulty_board}
+use Rattle.s2_revive.specs.MendingBoards.{mending_begun}
+use Rattle.s2_revive.specs.MendingFaults.{is_fault_tolerated}
+use Rattle.s2_revive.proofs.MendingMemory.{begun_keeps, begun_memory}
 use Rattle.s2_voter.specs.declared.verdicts.Verdict.{Verdict}
 use Rattle.s2_voter.specs.declared.verdicts.Verdict.TheVariants.{Waiting, Done, Split}
-use Rattle.s2_voter.specs.declared.voter.TheConstants.{DECISION_TIMER}
+use Rattle.s2_voter.specs.Timers.{timer_of}
 use Rattle.s2_voter.specs.VoterState.{has_two_latches}
 use Rattle.s2_voter.specs.VoterCalls.{remaining_age}
 use Rattle.s2_voter.specs.Verdicts.{processors, is_due, is_timed_out, differing_member, late_member}
 use Rattle.s2_journal.specs.declared.note.Reason.TheVariants.{Second, BothBoards}
-use Rattle.s2_script.specs.declared.entry.Act.TheVariants.{Event as EventAct, Poke, PokeLocal, Drive, Mute, Remove, Revive, Board}
+use Rattle.s2_script.specs.declared.entry.Act.TheVariants.{Event as EventAct, Poke, PokeLocal, Drive, Mute, Remove, Revive, Board, Mend}
 use Rattle.s2_plant_laws.specs.ClockPace.{ClockData}
-use Rattle.s2_plant_laws.specs.BoundedSkew.{BoundedSkew}
+use Rattle.s2_plant_laws.specs.BoundedSkew.{BoundedSkew, IsBeforeTimer}
 use Rattle.s2_plant_laws.specs.NextRequest.{NextRequest}
 use Rattle.s2_plant_laws.proofs.VoterTimer.{voter_timer}
 use Rattle.s2_triplex.specs.TriplexCores.{TriplexCore, IsTriplexCore}
@@ -28,7 +31,7 @@ use Rattle.s2_triplex.specs.TriplexState.{TriplexState, module_at}
 use Rattle.s2_triplex.specs.TickFirings.{after_firings}
 use Rattle.s2_triplex.specs.VotedAccess.{voted_access}
 use Rattle.s2_triplex.specs.VoterDecision.{no_effects, is_named, after_verdict, tick_verdict, voted}
-use Rattle.s2_triplex.specs.ActStep.{event_received, removed, module_disturbed, board_struck}
+use Rattle.s2_triplex.specs.ActStep.{event_received, removed, module_disturbed, board_struck, mend_begun}
 use Rattle.s2_triplex.specs.StepRefusals.{tick_refusal, second_fault, board_refusal}
 use Rattle.s2_triplex_laws.specs.LatchAgreement.{LatchAgreement}
 use Rattle.s2_triplex_laws.specs.ReplicaEquality.{ReplicaEquality}
@@ -36,7 +39,7 @@ use Rattle.s2_triplex_laws.specs.StepMasking.{CanTick, StepMasking}
 use Rattle.s2_triplex_laws.specs.TriplexInvariant.{skew_data, asks_from, CanStep, StepInvariant}
 use Rattle.s2_triplex_laws.specs.LawfulSteps.{TickKeepsInvariant, DecisionsFindAllLatched, TicksDecideRight, FaultKeepsInvariant, RemovalKeepsInvariant, EventKeepsInvariant, BoardFaultKeepsInvariant, ActKeepsInvariant}
 use Rattle.s2_triplex_laws.proofs.Firings.{StepGoesOn, firings_agree, firings_go_on}
-use Rattle.s2_triplex_laws.proofs.Acts.{ActEffect, act_goes_on, fault_acts, fault_agrees, removal_acts, removal_agrees, event_acts, board_acts}
+use Rattle.s2_triplex_laws.proofs.Acts.{ActEffect, act_goes_on, fault_acts, fault_agrees, removal_acts, removal_agrees, event_acts, boards_act, boards_agree, board_acts}
 use Rattle.s2_triplex_laws.proofs.RightDecisions.{verdict_waits}
 use Rattle.s2_triplex_laws.proofs.MaskingLaws.{step_masks, firings_mask, due_verdict, decision_masks, masking_adds, decisions_are_right, decisions_never_split, board_fault_keeps_masking}
 use Rattle.s2_triplex_laws.proofs.ClockSteps.{clock_is, two_is}
@@ -44,8 +47,8 @@ use Rattle.s2_triplex_laws.proofs.SkewSteps.{AtVerdict, KeepsAge, goes_on_keeps,
 use Rattle.s2_triplex_laws.proofs.RequestWaits.{verdicts_come}
 
 -- a step that goes on from the same start
-goes_on_steps : (k : TriplexCore) (c : IsTriplexCore k) (d e : TriplexState) (a : ReplicaEquality k d) (next : NextRequest (asks_from k a.start) k.frame) → LatchAgreement k e → StepGoesOn k d e a →
-    BoundedSkew DECISION_TIMER (next.cycles + 1) (skew_data e) → StepInvariant k d e no_effects
+goes_on_steps : (k : TriplexCore) (c : IsTriplexCore k) (d e : TriplexState) (a : ReplicaEquality k d) (next : NextRequest (asks_from k a.start) d.frame) → LatchAgreement k e → StepGoesOn k d e a →
+    BoundedSkew (timer_of e.frame) (next.cycles + 1) (skew_data e) → StepInvariant k d e no_effects
 goes_on_steps k c d e a next h o p = record { invariant = goes_on_keeps k d e a next h o p; advance = (step_masks k c d e a h o).advance }
 
 -- a decision
@@ -61,7 +64,7 @@ decision_steps k c d e j r differ late v h = record {
   advance = h.advance;
 }
 
-can_tick : (k : TriplexCore) (d : TriplexState) → CanStep k d → d.ticks < 2 ^ 40 → CanTick k d
+pub can_tick : (k : TriplexCore) (d : TriplexState) → CanStep k d → d.ticks < 2 ^ 40 → CanTick k d
 can_tick k d s room = record { core = s.core; masking = s.invariant.masking; room = room; halt = s.halt }
 
 pub all_latched : DecisionsFindAllLatched
@@ -86,22 +89,23 @@ tick_by k d mask s room lawful false due =
     let e = after_firings k d mask in
     let a = s.invariant.masking.replicas in
     let v = at_verdict k d mask s lawful in
-    let young = voter_timer.before e.voter.age (or_false (list_all (has_latch e) processors) (is_timed_out e.voter.age) due) in
+    let young = voter_timer.before e.voter.timer e.voter.age (or_false (list_all (has_latch e) processors) (is_timed_out e.voter.timer e.voter.age) due) in
+    let young_of_frame = subst (λ (t : ℕ). IsBeforeTimer t e.voter.age) s.invariant.masking.agreement.timer young in
     subst (λ (w : Verdict). StepInvariant k d (after_verdict k e w).next (after_verdict k e w).effects) (sym (verdict_waits e.voter due))
-    (goes_on_steps k s.core d e a s.invariant.next (firings_agree k s.core d mask s.invariant.masking.agreement) (firings_go_on k s.core d mask a room s.halt) (v.before young))
+    (goes_on_steps k s.core d e a s.invariant.next (firings_agree k s.core d mask s.invariant.masking.agreement) (firings_go_on k s.core d mask a room s.halt) (v.before young_of_frame))
 
 pub tick_keeps : TickKeepsInvariant
 tick_keeps k d mask s room lawful = tick_by k d mask s room lawful (is_due (after_firings k d mask).voter) refl
 
 -- what a tick decides
-due_at : (k : TriplexCore) (d : TriplexState) (mask : ℕ) (v : Verdict) → tick_verdict k d mask ≡ v → v ≢ Waiting → is_due (after_firings k d mask).voter ≡ true
+pub due_at : (k : TriplexCore) (d : TriplexState) (mask : ℕ) (v : Verdict) → tick_verdict k d mask ≡ v → v ≢ Waiting → is_due (after_firings k d mask).voter ≡ true
 due_at k d mask v is not = by_due (is_due (after_firings k d mask).voter) refl
   where
     by_due : (b : Bool) → is_due (after_firings k d mask).voter ≡ b → b ≡ true
     by_due true e = refl
     by_due false e = absurd (not (sym is ∙ verdict_waits (after_firings k d mask).voter e))
 
-done_differs : (r : Request) (differ late : Option ℕ) → Done r differ late ≢ Waiting
+pub done_differs : (r : Request) (differ late : Option ℕ) → Done r differ late ≢ Waiting
 done_differs r differ late h = cc
 
 split_differs : Split ≢ Waiting
@@ -165,8 +169,8 @@ event_keeps k d event s =
     let same : ((event_received event d).posted ≡ d.posted) × ((event_received event d).windows ≡ d.windows) × ((event_received event d).voter.age ≡ d.voter.age) = received_same _ _ d refl refl refl in
     act_steps k d (event_received event d) s t.acts same.0 same.1 t.agreement (inl same.2)
 
-pub tolerated_by : (d : TriplexState) (fault : BoardFault) → board_refusal d fault ≡ None → is_tolerated d.boards fault ≡ true
-tolerated_by d fault h = by_test (is_tolerated d.boards fault) h
+pub tolerated_by : (d : TriplexState) (fault : BoardFault) → board_refusal d fault ≡ None → is_fault_tolerated d.boards fault ≡ true
+tolerated_by d fault h = by_test (is_fault_tolerated d.boards fault) h
   where
     by_test : (b : Bool) → (if b then None else Some (BothBoards (faulty_board fault))) ≡ None → b ≡ true
     by_test true h = refl
@@ -189,3 +193,6 @@ act_keeps k d (Mute p) s proper lawful = fault_keeps k d p (module_muted (module
 act_keeps k d (Remove p) s proper lawful = removal_keeps k d p s lawful
 act_keeps k d (Revive p) s proper lawful = absurd proper
 act_keeps k d (Board fault) s proper lawful = (board_fault_keeps k d fault s proper lawful).step
+act_keeps k d (Mend board) s proper lawful =
+    act_steps k d (mend_begun board d) s (boards_act d (mending_begun board d.boards) (begun_memory board d.boards)) refl refl
+    (boards_agree k d (mending_begun board d.boards) (begun_keeps board d.boards s.invariant.masking.agreement.boards) s.invariant.masking.agreement) (inl refl)

@@ -27,6 +27,8 @@ pub mod FirstState
 pub mod HoldSteps
 pub mod LawfulSteps
 pub mod TicksInRepair
+pub mod BoardMoves
+pub mod MendedTicks
 pub mod ActsInRepair
 pub mod ReintegrationEnds
 pub mod OpenRepair
@@ -34,7 +36,16 @@ pub mod FrameEnds
 pub mod RepairCounts
 pub mod TicksCountRepair
 pub mod BoardFaultSteps
+pub mod PrivateBounds
+pub mod PrivateFacts
 pub mod TriplexStates
+pub mod FrameStays
 pub mod DeliveryOrder
 pub mod TriplexExecutions
+pub mod BoardMending
+pub mod MendedRuns
+pub mod MendingCounts
+pub mod MendingGoesOn
+pub mod MendedNotes
 pub mod EventOrder
+pub mod PromptEvents

@@ -41,6 +41,11 @@ run_after_cycles k c (suc n) s q h =
     let step = c.core.run_after_turn (after_local_cycles k n s).cpu (after_local_cycles k n s).local (asked_local k (after_local_cycles k n s) (q n (omega arith))) in
     omega arith
 
+-- the frame stays
+pub frame_after_cycles : (k : TriplexCore) (n : ℕ) (s : Replica) → (after_local_cycles k n s).frame ≡ s.frame
+frame_after_cycles k zero s = refl
+frame_after_cycles k (suc n) s = frame_after_cycles k n s
+
 -- the lines stay
 pub lines_after_cycles : (k : TriplexCore) (c : IsTriplexCore k) (n : ℕ) (s : Replica) → Quiet k n s → (after_local_cycles k n s).cpu.lines ≡ s.cpu.lines
 lines_after_cycles k c zero s q = refl

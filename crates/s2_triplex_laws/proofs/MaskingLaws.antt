@@ -3,9 +3,9 @@ use Rattle.std.proofs.Common.{◌≡◌, ℕ, zero, suc, ◌+◌, ◌-◌, ◌<�
 use Rattle.std.specs.Prelude.{Bool, true, false, None, ◌⊎◌}
 use Rattle.std.specs.declared.option.Option.{Option}
 use Rattle.std.proofs.lemmas.Bool.{cases_lt}
-use Rattle.s2_duplex.proofs.DuplexInvariant.{struck_contents, struck_duplex}
+use Rattle.s2_revive.proofs.MendingMemory.{struck_keeps, struck_memory}
 use Rattle.s2_ports.specs.declared.requests.Request.{Request}
-use Rattle.s2_duplex.specs.DuplexBoards.{contents}
+use Rattle.s2_revive.specs.MendingBoards.{memory_of}
 use Rattle.s2_voter.specs.Verdicts.{differing_member, is_due, late_member, verdict_of}
 use Rattle.s2_voter.specs.declared.verdicts.Verdict.{Verdict}
 use Rattle.s2_voter.specs.declared.verdicts.Verdict.TheVariants.{Done, Split, Waiting}
@@ -30,7 +30,7 @@ use Rattle.s2_triplex_laws.proofs.CountsWithin.{count_within}
 use Rattle.s2_triplex_laws.proofs.RightDecisions.{AllAsk, all_ask_at, differ_named, good_unnamed, late_named, named_tainted, tainted_is, verdict_is, verdict_waits}
 use Rattle.s2_triplex_laws.proofs.DeliveredRuns.{advances_add, machine_runs_add, up_to_at, up_to_both}
 use Rattle.s2_triplex_laws.proofs.Firings.{StepGoesOn, firings_agree, firings_go_on, good_member}
-use Rattle.s2_triplex_laws.proofs.LocalCycles.{asked_local, cycles_add, quiet_after, run_after_cycles}
+use Rattle.s2_triplex_laws.proofs.LocalCycles.{asked_local, cycles_add, frame_after_cycles, quiet_after, run_after_cycles}
 use Rattle.s2_triplex_laws.proofs.ReferenceGoesOn.{reference_goes_on, run_of_reached}
 use Rattle.s2_triplex_laws.proofs.SlowestProcessor.{either_good, slowest_is}
 
@@ -94,7 +94,7 @@ due_verdict k d h all due =
     let a = all_ask_at k d h.agreement h.replicas all (slowest d.tainted d.modules) p.low p.good in
     (a.0, a.1, verdict_is k d (slow_replica d) a.0 a.1 h.agreement.voter due)
 
-verdict_told : (k : TriplexCore) (d : TriplexState) (r : Request) (differ late : Option ℕ) → Masking k d → AllLatched d → verdict_of d.voter ≡ Done r differ late → VerdictTold k d r differ late
+pub verdict_told : (k : TriplexCore) (d : TriplexState) (r : Request) (differ late : Option ℕ) → Masking k d → AllLatched d → verdict_of d.voter ≡ Done r differ late → VerdictTold k d r differ late
 verdict_told k d r differ late h all done = by_due (is_due d.voter) refl
   where
     clash : (v : Verdict) → v ≡ Waiting → v ≡ Done r differ late → ⊥
@@ -260,9 +260,9 @@ run_goes_on k m d e effects ds bs c a =
     }
 
 -- where a frame's end is due
-due_by : (k : TriplexCore) (n : ℕ) (s : Replica) → 0 < n → (after_local_cycles k n s).due ≡ is_frame_end k.frame (after_local_cycles k n s).cpu.run
+due_by : (k : TriplexCore) (n : ℕ) (s : Replica) → 0 < n → (after_local_cycles k n s).due ≡ is_frame_end s.frame (after_local_cycles k n s).cpu.run
 due_by k zero s h = absurd (omega arith)
-due_by k (suc n) s h = refl
+due_by k (suc n) s h = ap (λ (frame : ℕ). is_frame_end frame (after_local_cycles k (suc n) s).cpu.run) (frame_after_cycles k n s)
 
 pub ask_by_due : (k : TriplexCore) (s : Replica) (due : Bool) → ask_unless_due k s due ≡ Local → due ≡ false
 ask_by_due k s true h = absurd cc
@@ -286,13 +286,13 @@ frame_ends_are_due k d c a = record {
       let run_is : (after_local_cycles k x.cycles a.start).cpu.run ≡ run_at d.modules p = ap (λ (s : Replica). s.cpu.run) (sym x.is) in
       record {
         low = omega arith;
-        above = λ more. ap (λ (s : Replica). s.due) x.is ∙ (due_by k x.cycles a.start (omega arith) ∙ ap (is_frame_end k.frame) run_is);
+        above = λ more. ap (λ (s : Replica). s.due) x.is ∙ (due_by k x.cycles a.start (omega arith) ∙ (ap (is_frame_end a.start.frame) run_is ∙ ap (λ (frame : ℕ). is_frame_end frame (run_at d.modules p)) a.frame));
         none_past = λ run more less.
             let i : a.start.cpu.run + (run - a.start.cpu.run) ≡ run = omega arith in
             let small : run - a.start.cpu.run < x.cycles = omega arith in
             let quiet = x.quiet (run - a.start.cpu.run) small in
             let at_i = run_after_cycles k c (run - a.start.cpu.run) a.start (λ j less. x.quiet j (omega arith)) (omega arith) in
-            sym (due_by k (run - a.start.cpu.run) a.start (omega arith) ∙ ap (is_frame_end k.frame) (at_i ∙ i)) ∙
+            sym (due_by k (run - a.start.cpu.run) a.start (omega arith) ∙ (ap (is_frame_end a.start.frame) (at_i ∙ i) ∙ ap (λ (frame : ℕ). is_frame_end frame run) a.frame)) ∙
             ask_by_due k (after_local_cycles k (run - a.start.cpu.run) a.start) (after_local_cycles k (run - a.start.cpu.run) a.start).due quiet;
       };
   due = a.start.due;
@@ -302,7 +302,7 @@ frame_ends_are_due k d c a = record {
       let at = a.at in
       ap (λ (s : Replica). s.due) x.is ∙ due_at_none k x.cycles a.start (omega arith);
   stops = λ due. (
-    subst (λ (n : ℕ). is_frame_end k.frame n ≡ true) a.at (a.ends due),
+    subst (λ (n : ℕ). is_frame_end d.frame n ≡ true) a.at (a.ends due),
     λ p hp g.
         let x = a.each p hp g in
         let to = run_of_reached k c d a p hp g in
@@ -316,10 +316,10 @@ frame_ends_are_due k d c a = record {
 pub board_fault_keeps_masking : BoardFaultKeepsMasking
 board_fault_keeps_masking k d fault t below tolerated =
     let boards = t.masking.agreement.boards in
-    let same : contents (board_struck fault d).boards ≡ contents d.boards = struck_contents d.boards fault below tolerated boards in
+    let same : memory_of (board_struck fault d).boards ≡ memory_of d.boards = struck_memory d.boards fault below tolerated boards in
     record {
       step =
-          step_masks k t.core d (board_struck fault d) t.masking.replicas (board_agrees k d fault (struck_duplex d.boards fault below tolerated boards) t.masking.agreement)
+          step_masks k t.core d (board_struck fault d) t.masking.replicas (board_agrees k d fault (struck_keeps d.boards fault below tolerated boards) t.masking.agreement)
           (act_goes_on k d (board_struck fault d) t.masking.replicas t.halt (board_acts d fault same));
       contents = same;
     }

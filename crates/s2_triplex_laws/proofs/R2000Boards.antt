@@ -11,8 +11,10 @@ use Rattle.s2_ports.specs.declared.requests.Request.{Request}
 use Rattle.s2_ports.specs.declared.requests.Kind.{Kind}
 use Rattle.s2_ports.specs.declared.requests.Kind.TheVariants.{Load, Store, Sync}
 use Rattle.s2_device.specs.DeviceState.{Device}
-use Rattle.s2_duplex.specs.DuplexBoards.{BoardPair, IsDuplex, contents, valid_word}
-use Rattle.s2_duplex.proofs.DuplexInvariant.{read_duplex, read_contents, written_duplex, written_contents, valid_in_contents}
+use Rattle.s2_duplex.specs.DuplexBoards.{valid_word}
+use Rattle.s2_duplex.proofs.DuplexInvariant.{valid_in_contents}
+use Rattle.s2_revive.specs.MendingBoards.{MendingBoards, AreMendingBoards, memory_of}
+use Rattle.s2_revive.proofs.MendingMemory.{read_keeps, read_memory, write_keeps, write_memory}
 use Rattle.s2_machine.specs.OutsideAccess.{access_at}
 use Rattle.s2_core.proofs.CoreFacts.{r2000_core}
 use Rattle.s2_triplex.specs.TriplexCores.{KeepsBoards}
@@ -51,39 +53,41 @@ in_global pa i h = by_tests (is_between LOCAL_START pa LOCAL_END) (is_between BO
     by_tests false false false false e h = absurd cc
 
 -- what an access of a place keeps
-record KeepsAt (s : BoardPair) (device : Device) (kind : Kind) (word mask : ℕ) (place : Place) : Type 0 where
-  duplex : IsDuplex (boards_after_access s kind word mask place).boards
-  contents : contents (boards_after_access s kind word mask place).boards ≡ (access_at (contents s) device kind word mask place).global
+record KeepsAt (s : MendingBoards) (device : Device) (kind : Kind) (word mask : ℕ) (place : Place) : Type 0 where
+  boards : AreMendingBoards (boards_after_access s kind word mask place).boards
+  memory : memory_of (boards_after_access s kind word mask place).boards ≡ (access_at (memory_of s) device kind word mask place).global
+  mending : (boards_after_access s kind word mask place).boards.mending ≡ s.mending
 
-keeps_global : (s : BoardPair) (device : Device) (kind : Kind) (word mask i : ℕ) → i < GLOBAL_WORDS → IsDuplex s → KeepsAt s device kind word mask (Global i)
-keeps_global s device Load word mask i h d = record { duplex = read_duplex s i h d; contents = read_contents s i h d }
+keeps_global : (s : MendingBoards) (device : Device) (kind : Kind) (word mask i : ℕ) → i < GLOBAL_WORDS → AreMendingBoards s → KeepsAt s device kind word mask (Global i)
+keeps_global s device Load word mask i h d = record { boards = read_keeps s i h d; memory = read_memory s i h d; mending = refl }
 keeps_global s device Store word mask i h d = record {
-  duplex = written_duplex s i (bytes_into_of (valid_word s i) word mask) h d;
-  contents =
-      written_contents s i (bytes_into_of (valid_word s i) word mask) h d ∙
-      ap (λ (old : ℕ). slice_set (contents s) i (bytes_into_of old word mask)) (valid_in_contents s i h d);
+  boards = write_keeps s i (bytes_into_of (valid_word s.pair i) word mask) h d;
+  memory =
+      write_memory s i (bytes_into_of (valid_word s.pair i) word mask) h d ∙
+      ap (λ (old : ℕ). slice_set (memory_of s) i (bytes_into_of old word mask)) (valid_in_contents s.pair i h d.duplex);
+  mending = refl;
 }
-keeps_global s device Sync word mask i h d = record { duplex = d; contents = refl }
+keeps_global s device Sync word mask i h d = record { boards = d; memory = refl; mending = refl }
 
-keeps_at : (s : BoardPair) (device : Device) (kind : Kind) (word mask : ℕ) (place : Place) → ((i : ℕ) → place ≡ Global i → i < GLOBAL_WORDS) → IsDuplex s → KeepsAt s device kind word mask place
+keeps_at : (s : MendingBoards) (device : Device) (kind : Kind) (word mask : ℕ) (place : Place) → ((i : ℕ) → place ≡ Global i → i < GLOBAL_WORDS) → AreMendingBoards s → KeepsAt s device kind word mask place
 keeps_at s device kind word mask (Global i) low d = keeps_global s device kind word mask i (low i refl) d
-keeps_at s device Load word mask (Local i) low d = record { duplex = d; contents = refl }
-keeps_at s device Store word mask (Local i) low d = record { duplex = d; contents = refl }
-keeps_at s device Sync word mask (Local i) low d = record { duplex = d; contents = refl }
-keeps_at s device Load word mask (Boot i) low d = record { duplex = d; contents = refl }
-keeps_at s device Store word mask (Boot i) low d = record { duplex = d; contents = refl }
-keeps_at s device Sync word mask (Boot i) low d = record { duplex = d; contents = refl }
-keeps_at s device Load word mask (DevicePlace k) low d = record { duplex = d; contents = refl }
-keeps_at s device Store word mask (DevicePlace k) low d = record { duplex = d; contents = refl }
-keeps_at s device Sync word mask (DevicePlace k) low d = record { duplex = d; contents = refl }
-keeps_at s device Load word mask Nowhere low d = record { duplex = d; contents = refl }
-keeps_at s device Store word mask Nowhere low d = record { duplex = d; contents = refl }
-keeps_at s device Sync word mask Nowhere low d = record { duplex = d; contents = refl }
+keeps_at s device Load word mask (Local i) low d = record { boards = d; memory = refl; mending = refl }
+keeps_at s device Store word mask (Local i) low d = record { boards = d; memory = refl; mending = refl }
+keeps_at s device Sync word mask (Local i) low d = record { boards = d; memory = refl; mending = refl }
+keeps_at s device Load word mask (Boot i) low d = record { boards = d; memory = refl; mending = refl }
+keeps_at s device Store word mask (Boot i) low d = record { boards = d; memory = refl; mending = refl }
+keeps_at s device Sync word mask (Boot i) low d = record { boards = d; memory = refl; mending = refl }
+keeps_at s device Load word mask (DevicePlace k) low d = record { boards = d; memory = refl; mending = refl }
+keeps_at s device Store word mask (DevicePlace k) low d = record { boards = d; memory = refl; mending = refl }
+keeps_at s device Sync word mask (DevicePlace k) low d = record { boards = d; memory = refl; mending = refl }
+keeps_at s device Load word mask Nowhere low d = record { boards = d; memory = refl; mending = refl }
+keeps_at s device Store word mask Nowhere low d = record { boards = d; memory = refl; mending = refl }
+keeps_at s device Sync word mask Nowhere low d = record { boards = d; memory = refl; mending = refl }
 
-keeps_boards : (s : BoardPair) (device : Device) (r : Request) → IsDuplex s → KeepsBoards r2000_triplex s device r
+keeps_boards : (s : MendingBoards) (device : Device) (r : Request) → AreMendingBoards s → KeepsBoards r2000_triplex s device r
 keeps_boards s device r d =
     let k = keeps_at s device r.kind r.word r.mask (place_at r.address) (in_global r.address) d in
-    record { duplex = k.duplex; contents = k.contents }
+    record { boards = k.boards; memory = k.memory; mending = k.mending }
 
 pub r2000_triplex_core : R2000IsTriplexCore
-r2000_triplex_core = record { core = r2000_core; frame = record { low = omega arith; high = omega arith }; boards = keeps_boards }
+r2000_triplex_core = record { core = r2000_core; boards = keeps_boards }

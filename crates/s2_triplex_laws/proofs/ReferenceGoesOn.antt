@@ -3,7 +3,7 @@ use Rattle.std.proofs.Common.{◌≡◌, ℕ, ◌+◌, ◌-◌, ◌<◌, ◌≤�
 use Rattle.std.specs.Prelude.{None}
 use Rattle.std.proofs.lemmas.Bool.{cases_lt}
 use Rattle.s2_ports.specs.declared.requests.Request.{Request}
-use Rattle.s2_duplex.specs.DuplexBoards.{contents}
+use Rattle.s2_revive.specs.MendingBoards.{memory_of}
 use Rattle.s2_machine.specs.declared.ask.Ask.{Ask}
 use Rattle.s2_machine.specs.declared.ask.Ask.TheVariants.{Local, Outside}
 use Rattle.s2_triplex.specs.ModuleState.{Replica, after_local_cycles, replica_ask, replica_of}
@@ -14,7 +14,7 @@ use Rattle.s2_triplex.specs.VoterDecision.{no_effects}
 use Rattle.s2_triplex_laws.specs.LatchAgreement.{IsGood}
 use Rattle.s2_triplex_laws.specs.ReferenceAdvance.{ReferenceRuns}
 use Rattle.s2_triplex_laws.specs.ReplicaEquality.{ReplicaEquality}
-use Rattle.s2_triplex_laws.proofs.LocalCycles.{Quiet, cycles_add, quiet_after, run_after_cycles, run_between}
+use Rattle.s2_triplex_laws.proofs.LocalCycles.{Quiet, cycles_add, frame_after_cycles, quiet_after, run_after_cycles, run_between}
 use Rattle.s2_triplex_laws.proofs.SlowestProcessor.{slowest_is}
 
 -- a good processor's run count is that of the start and its cycles
@@ -26,6 +26,10 @@ run_of_reached k c d a p hp g =
     let at = a.at in
     let spent = r.spent in
     ap (λ (s : Replica). s.cpu.run) r.is ∙ run_after_cycles k c r.cycles a.start r.quiet (omega arith)
+
+-- and its frame is that of the machine
+pub frame_of_reached : (k : TriplexCore) (d : TriplexState) (a : ReplicaEquality k d) (p : ℕ) (hp : p < 3) (g : IsGood d p) → (module_at d.modules p).frame ≡ d.frame
+frame_of_reached k d a p hp g = let r = a.each p hp g in ap (λ (s : Replica). s.frame) r.is ∙ (frame_after_cycles k r.cycles a.start ∙ a.frame)
 
 -- two good processors that wait for the outside have done the same cycles
 pub same_cycles : (k : TriplexCore) (s : Replica) (n m : ℕ) (r q : Request) → Quiet k n s → Quiet k m s → replica_ask k (after_local_cycles k n s) ≡ Outside r → replica_ask k (after_local_cycles k m s) ≡ Outside q → n ≡ m
@@ -48,10 +52,11 @@ same_replica k d a p q hp gp hq gq r s ap_is aq_is =
 
 -- a state whose good processors have gone on by local work, some of them perhaps no longer good
 pub record GoesOn (k : TriplexCore) (d e : TriplexState) (a : ReplicaEquality k d) (b : ReplicaEquality k e) : Type 0 where
+  pub frame : e.frame ≡ d.frame
   pub start : b.start ≡ a.start
   pub halt : d.halt ≡ None
   pub still : e.halt ≡ None
-  pub global : contents e.boards ≡ contents d.boards
+  pub global : memory_of e.boards ≡ memory_of d.boards
   pub device : e.device ≡ d.device
   pub good : (p : ℕ) → p < 3 → IsGood e p → IsGood d p
   pub grows : (p : ℕ) → p < 3 → IsGood e p → run_at d.modules p ≤ run_at e.modules p
@@ -76,7 +81,7 @@ reference_goes_on k c d e a b h =
     record {
       grows = omega arith;
       reference_runs =
-          run_between k (runs e - runs d) (runs d) (contents d.boards) (contents e.boards) d.device e.device d.halt e.halt (module_at d.modules (slowest d.tainted d.modules))
+          run_between k (runs e - runs d) (runs d) (memory_of d.boards) (memory_of e.boards) d.device e.device d.halt e.halt (module_at d.modules (slowest d.tainted d.modules))
           (module_at e.modules (slowest e.tainted e.modules)) h.halt h.still h.global h.device
           (subst (λ (i : ℕ). Quiet k i (replica_of (module_at d.modules (slowest d.tainted d.modules)))) (sym n)
           (subst (λ (s : Replica). Quiet k (y.cycles - x.cycles) s) (sym x.is)

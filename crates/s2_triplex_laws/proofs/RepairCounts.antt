@@ -78,9 +78,11 @@ due_stays k c d e a run good same =
     let i = same q p.low p.good in
     ap (λ (s : Replica). s.due && (s.cpu.run == e.resumed_run)) i ∙ (ap (λ (n : ℕ). (module_at d.modules q).due && (run_at d.modules q == n)) run ∙ (due_at k c d a q p.low (good q p.low p.good) ∙ sym (due_now k c d a)))
 
-pub sync_stays : (k : TriplexCore) (c : IsTriplexCore k) (d e : TriplexState) (a : ReplicaEquality k d) → e.resumed_run ≡ d.resumed_run → ((q : ℕ) → q < 3 → IsGood e q → IsGood d q) →
-    ((q : ℕ) → q < 3 → IsGood e q → replica_of (module_at e.modules q) ≡ replica_of (module_at d.modules q)) → next_sync_of k e ≡ next_sync_of k d
-sync_stays k c d e a run good same = ap (λ (b : Bool). next_sync k.frame b e.resumed_run) (due_stays k c d e a run good same) ∙ ap (λ (n : ℕ). next_sync k.frame (is_sync_due d) n) run
+pub sync_stays : (k : TriplexCore) (c : IsTriplexCore k) (d e : TriplexState) (a : ReplicaEquality k d) → e.frame ≡ d.frame → e.resumed_run ≡ d.resumed_run → ((q : ℕ) → q < 3 → IsGood e q → IsGood d q) →
+    ((q : ℕ) → q < 3 → IsGood e q → replica_of (module_at e.modules q) ≡ replica_of (module_at d.modules q)) → next_sync_of e ≡ next_sync_of d
+sync_stays k c d e a frame run good same =
+    ap (λ (f : ℕ). next_sync f (is_sync_due e) e.resumed_run) frame ∙
+    (ap (λ (b : Bool). next_sync d.frame b e.resumed_run) (due_stays k c d e a run good same) ∙ ap (λ (n : ℕ). next_sync d.frame (is_sync_due d) n) run)
 
 -- where all good processors stand at the last resume
 pub due_level : (e : TriplexState) (t : Replica) → ((q : ℕ) → q < 3 → IsGood e q → replica_of (module_at e.modules q) ≡ t) → e.resumed_run ≡ t.cpu.run → is_sync_due e ≡ t.due
@@ -111,7 +113,7 @@ no_wait k e i now all =
     clash (is_some (latch_of e.voter q)) latched (ap (λ (l : Option Posted). is_some l) ((h.good q p.low p.good).latch ∙ now_empty k e i.masking.replicas now q p.low p.good))
 
 pub counted_now : (k : TriplexCore) (e : TriplexState) (j : Reintegration) → TriplexInvariant k e → IsOpenReintegration e j → e.resumed ≡ e.ticks → j.revived ≤ e.ticks → TicksCounted (repair_tally e j) →
-    next_sync_of k e ≤ j.revived_run + k.frame * (j.copying.syncs + 1) → RepairProgress j.copied j.copying → IsRepairCounted k e j
+    next_sync_of e ≤ j.revived_run + e.frame * (j.copying.syncs + 1) → RepairProgress j.copied j.copying → IsRepairCounted e j
 counted_now k e j i o now past ticks sync progress = record {
   ticks = ticks;
   sync = sync;
@@ -128,9 +130,9 @@ pub record SameCount (i j : Reintegration) : Type 0 where
   pub revived_run : j.revived_run ≡ i.revived_run
   pub copied : j.copied ≡ i.copied
 
-pub act_counts : (k : TriplexCore) (c : IsTriplexCore k) (d e : TriplexState) (i j : Reintegration) → TriplexInvariant k d → TriplexInvariant k e → ActEffect d e → e.voter ≡ d.voter → IsOpenReintegration e j → SameCount i j → IsRepairCounted k d i → IsRepairCounted k e j
+pub act_counts : (k : TriplexCore) (c : IsTriplexCore k) (d e : TriplexState) (i j : Reintegration) → TriplexInvariant k d → TriplexInvariant k e → ActEffect d e → e.voter ≡ d.voter → IsOpenReintegration e j → SameCount i j → IsRepairCounted d i → IsRepairCounted e j
 act_counts k c d e i j old new acts voter o same h =
-    let s = sync_stays k c d e old.masking.replicas acts.resumed_run acts.good (λ q hq g. ap replica_of (acts.modules q hq g)) in
+    let s = sync_stays k c d e old.masking.replicas acts.frame acts.resumed_run acts.good (λ q hq g. ap replica_of (acts.modules q hq g)) in
     let ticks = acts.ticks in
     let resumed = acts.resumed in
     let run = acts.resumed_run in
@@ -141,10 +143,10 @@ act_counts k c d e i j old new acts voter o same h =
     let copied = same.copied in
     let counted : d.resumed ≤ i.revived + 7 * (d.resumed_run - i.revived_run + j.copying.syncs) + i.copied =
     subst (λ (x : CopyState). d.resumed ≤ i.revived + 7 * (d.resumed_run - i.revived_run + x.syncs) + i.copied) (sym same.copying) h.ticks.ticks in
-    let next : next_sync_of k d ≤ i.revived_run + k.frame * (j.copying.syncs + 1) = subst (λ (x : CopyState). next_sync_of k d ≤ i.revived_run + k.frame * (x.syncs + 1)) (sym same.copying) h.sync in
+    let next : next_sync_of d ≤ i.revived_run + d.frame * (j.copying.syncs + 1) = subst (λ (x : CopyState). next_sync_of d ≤ i.revived_run + d.frame * (x.syncs + 1)) (sym same.copying) h.sync in
     record {
       ticks = record { rising = omega arith; ticks = omega arith };
-      sync = omega arith;
+      sync = subst (λ (f : ℕ). next_sync_of e ≤ j.revived_run + f * (j.copying.syncs + 1)) (sym acts.frame) (omega arith);
       posts = posts_of k e j new.masking.agreement o;
       past = omega arith;
       waits = λ all.
@@ -156,7 +158,7 @@ act_counts k c d e i j old new acts voter o same h =
 pub fault_counts_repair : FaultCountsRepair
 fault_counts_repair k d p m s lawful fits counts x is = by_open d.reintegration refl
   where
-    by_open : (open_before : Option Reintegration) → d.reintegration ≡ open_before → IsRepairCounted k (module_disturbed p m d) x
+    by_open : (open_before : Option Reintegration) → d.reintegration ≡ open_before → IsRepairCounted (module_disturbed p m d) x
     by_open None e = absurd (none_some x (ap reintegration_disturbed (sym e) ∙ is))
     by_open (Some i) e =
         let w = fault_keeps_repair k d p m s lawful fits in
@@ -190,9 +192,9 @@ revive_counts_repair k d p s hp out x is =
     let first = reintegration_begun p d in
     let o = w.repair.opened first refl in
     let past = s.invariant.skew.past in
-    subst (IsRepairCounted k (revived p d)) (some_is first x is) (record {
+    subst (IsRepairCounted (revived p d)) (some_is first x is) (record {
       ticks = record { rising = omega arith; ticks = omega arith };
-      sync = first_sync k.frame (is_sync_due (revived p d)) d.resumed_run;
+      sync = first_sync d.frame (is_sync_due (revived p d)) d.resumed_run;
       posts = posts_of k (revived p d) first w.invariant.masking.agreement o;
       past = omega arith;
       waits = λ all. refl;

@@ -86,24 +86,30 @@ marks_next k c seen m n (stays e s p mk) = ap length mk
 marks_next k c seen m n (posts r e x a s p mk) = ap length mk
 marks_next k c seen m n (works e x a s p mk) = ap length mk ∙ c.core.marks_length_after_turn m.cpu m.local m.marks (asked_local k (replica_of m) a)
 
-ticked_module : (k : TriplexCore) (c : IsTriplexCore k) (seen : ℕ) (member fires : Bool) (m : ModuleState) → IsModule m → IsModule (module_ticked k seen member fires m)
-ticked_module k c seen member fires m h = record {
+frame_next : (k : TriplexCore) (seen : ℕ) (m n : ModuleState) → FiredModule k seen m n → n.frame ≡ m.frame
+frame_next k seen m n (stays e i p mk) = ap (λ (s : Replica). s.frame) i
+frame_next k seen m n (posts r e x a i p mk) = ap (λ (s : Replica). s.frame) i
+frame_next k seen m n (works e x a i p mk) = ap (λ (s : Replica). s.frame) i
+
+ticked_module : (k : TriplexCore) (c : IsTriplexCore k) (seen : ℕ) (member fires : Bool) (frame : ℕ) (m : ModuleState) → IsModule frame m → IsModule frame (module_ticked k seen member fires m)
+ticked_module k c seen member fires frame m h = record {
   fires = fires_next k seen member fires m h.fires;
   local = size_next k c seen m (module_ticked k seen member fires m) (module_fires k seen member fires m) ∙ h.local;
   marks = marks_next k c seen m (module_ticked k seen member fires m) (module_fires k seen member fires m) ∙ h.marks;
+  frame = frame_next k seen m (module_ticked k seen member fires m) (module_fires k seen member fires m) ∙ h.frame;
 }
 
 -- a page without a mark was without one before, and its words stay
-leaves_next : (k : TriplexCore) (c : IsTriplexCore k) (seen : ℕ) (m n : ModuleState) → IsModule m → FiredModule k seen m n → UnmarkedPagesStay m.local m.marks n.local n.marks
-leaves_next k c seen m n h (stays e s p mk) = record {
+leaves_next : (k : TriplexCore) (c : IsTriplexCore k) (seen : ℕ) (frame : ℕ) (m n : ModuleState) → IsModule frame m → FiredModule k seen m n → UnmarkedPagesStay m.local m.marks n.local n.marks
+leaves_next k c seen frame m n h (stays e s p mk) = record {
   unmarked = λ page u. ap (λ (x : List Bool). mark_at x page) (sym mk) ∙ u;
   same = λ i u. ap (λ (x : Replica). word_at x.local i) s;
 }
-leaves_next k c seen m n h (posts r e x a s p mk) = record {
+leaves_next k c seen frame m n h (posts r e x a s p mk) = record {
   unmarked = λ page u. ap (λ (x : List Bool). mark_at x page) (sym mk) ∙ u;
   same = λ i u. ap (λ (x : Replica). word_at x.local i) s;
 }
-leaves_next k c seen m n h (works e x a s p mk) = record {
+leaves_next k c seen frame m n h (works e x a s p mk) = record {
   unmarked = λ page u. c.core.unmarked m.cpu m.local m.marks page (asked_local k (replica_of m) a) h.local h.marks (ap (λ (x : List Bool). mark_at x page) (sym mk) ∙ u);
   same = λ i u.
       ap (λ (x : Replica). word_at x.local i) s ∙
@@ -127,7 +133,7 @@ not_holding j r e free held = clash (is_holding (Some j)) held (ap is_holding (s
 pub firings_keep_repair : (k : TriplexCore) (c : IsTriplexCore k) (d : TriplexState) (mask : ℕ) → slow_of mask d.tainted d.windows ≡ None → is_holding d.reintegration ≡ false → LatchAgreement k d → RepairInvariant d → RepairInvariant (after_firings k d mask)
 firings_keep_repair k c d mask slow free h r = record {
   modules = λ p hp.
-      subst IsModule (sym (module_is k d mask p hp)) (ticked_module k c d.accepted (is_member d.voter p) (is_firing mask p) (module_at d.modules p) (r.modules p hp));
+      subst (IsModule d.frame) (sym (module_is k d mask p hp)) (ticked_module k c d.accepted (is_member d.voter p) (is_firing mask p) d.frame (module_at d.modules p) (r.modules p hp));
   fair = stays_fair mask d.tainted d.windows r.fair slow;
   joining = r.joining;
   opened = λ j is.
@@ -148,7 +154,7 @@ firings_keep_repair k c d mask slow free h r = record {
           members = λ q m.
               leaves_moved (replica_words (local_replicas d j) q) (replica_words (local_replicas e j) q) (module_at d.modules q).local (module_at e.modules q).local (replica_marks (local_replicas d j) q) (replica_marks (local_replicas e j) q)
               (module_at d.modules q).marks (module_at e.modules q).marks (local_of_is d j q m.0) (marks_of_is d j q m.0) (local_of_is e j q m.0) (marks_of_is e j q m.0)
-              (leaves_next k c d.accepted (module_at d.modules q) (module_at e.modules q) (r.modules q m.0) (fires_at k d mask q m.0));
+              (leaves_next k c d.accepted d.frame (module_at d.modules q) (module_at e.modules q) (r.modules q m.0) (fires_at k d mask q m.0));
           sizes = λ q hq. ap length (local_of_is e j q hq) ∙ (size_next k c d.accepted (module_at d.modules q) (module_at e.modules q) (fires_at k d mask q hq) ∙ sym (ap length (local_of_is d j q hq)));
         }) o.copied;
       };
@@ -160,19 +166,26 @@ finished_local k Load word lines s = refl
 finished_local k Store word lines s = refl
 finished_local k Sync word lines s = refl
 
+-- and not the frame
+finished_frame : (k : TriplexCore) (kind : Kind) (word lines : ℕ) (s : Replica) → (finished_replica k kind word lines s).frame ≡ s.frame
+finished_frame k Load word lines s = refl
+finished_frame k Store word lines s = refl
+finished_frame k Sync word lines s = refl
+
 -- what an answer leaves of a module
 record Answers (m n : ModuleState) : Type 0 where
   fires : n.fires ≡ m.fires
   local : n.local ≡ m.local
   marks : n.marks ≡ m.marks
+  frame : n.frame ≡ m.frame
 
 answers_by : (k : TriplexCore) (r : Request) (word lines : ℕ) (m : ModuleState) (b : Bool) → Answers m (record (if b then with_replica m (finished_replica k r.kind word lines (replica_of m)) else m) { port = None })
-answers_by k r word lines m true = record { fires = refl; local = finished_local k r.kind word lines (replica_of m); marks = refl }
-answers_by k r word lines m false = record { fires = refl; local = refl; marks = refl }
+answers_by k r word lines m true = record { fires = refl; local = finished_local k r.kind word lines (replica_of m); marks = refl; frame = finished_frame k r.kind word lines (replica_of m) }
+answers_by k r word lines m false = record { fires = refl; local = refl; marks = refl; frame = refl }
 
 answers_if : (b : Bool) (k : TriplexCore) (r : Request) (word lines : ℕ) (m : ModuleState) → Answers m (answered_if b k r word lines m)
 answers_if true k r word lines m = answers_by k r word lines m (is_asking (replica_ask k (replica_of m)) r)
-answers_if false k r word lines m = record { fires = refl; local = refl; marks = refl }
+answers_if false k r word lines m = record { fires = refl; local = refl; marks = refl; frame = refl }
 
 pub decided_module : (k : TriplexCore) (d : TriplexState) (r : Request) (a : VotedAccess) (named : ℕ → Bool) (p : ℕ) → p < 3 → module_at (after_decision k d r a named).modules p ≡ answered_at k d r a named p
 decided_module k d r a named zero h = refl
@@ -231,7 +244,7 @@ decision_keeps_repair k d r a named free unnamed x = record {
   modules = λ p hp.
       let n = answers_at k d r a named p hp in
       let m = x.modules p hp in
-      record { fires = subst (λ (f : ℕ). f < 256) (sym n.fires) m.fires; local = ap length n.local ∙ m.local; marks = ap length n.marks ∙ m.marks };
+      record { fires = subst (λ (f : ℕ). f < 256) (sym n.fires) m.fires; local = ap length n.local ∙ m.local; marks = ap length n.marks ∙ m.marks; frame = n.frame ∙ m.frame };
   fair = x.fair;
   joining = λ p hp is. x.joining p hp (membership_before (named p) (membership_at d.memberships p) (sym (decided_membership k d r a named p hp) ∙ is));
   opened = λ j is.

@@ -5,23 +5,25 @@ use Rattle.std.specs.List.{list_all}
 use Rattle.std.specs.declared.option.Option.{Option}
 use Rattle.s2_ports.specs.declared.requests.Request.{Request}
 use Rattle.s2_ports.specs.declared.requests.Posted.{Posted}
-use Rattle.s2_clock.specs.declared.numbers.TheConstants.{MISSES_ALLOWED, REFRESH_PERIOD, FRAME}
+use Rattle.s2_clock.specs.declared.numbers.TheConstants.{MISSES_ALLOWED, REFRESH_PERIOD}
+use Rattle.s2_clock.specs.Frames.{IsFrame}
 use Rattle.s2_clock.specs.TickWindow.{misses_in}
 use Rattle.s2_clock.specs.ClockWatch.{window_at}
-use Rattle.s2_voter.specs.declared.voter.TheConstants.{DECISION_TIMER}
+use Rattle.s2_voter.specs.Timers.{timer_of}
 use Rattle.s2_voter.specs.VoterState.{is_member, latch_of}
 use Rattle.s2_voter.specs.Verdicts.{processors, is_unlatched, is_timed_out, is_due}
-use Rattle.s2_plant_laws.specs.declared.numbers.TheConstants.{SKEW_BOUND}
-use Rattle.s2_plant_laws.specs.WorkSpan.{span, frame_work}
+use Rattle.s2_plant_laws.specs.FrameNumbers.{skew_of}
+use Rattle.s2_plant_laws.specs.WorkSpan.{span}
 use Rattle.s2_plant_laws.specs.ClockPace.{ClockData}
 use Rattle.s2_plant_laws.specs.BoundedSkew.{clock_at, are_two_latched, since_resume, AllBounded, BoundedSkew, IsBeforeTimer, ClockAtResume, IsActOn}
 use Rattle.s2_plant_laws.specs.NextRequest.{NextRequest}
 use Rattle.s2_plant_laws.specs.WaitingTime.{VerdictWaits}
-use Rattle.s2_plant_laws.proofs.Spans.{span_bounds}
+use Rattle.s2_plant_laws.proofs.Spans.{frame_skew}
 use Rattle.s2_plant_laws.proofs.SkewBounds.{resume_bounds_skew}
 use Rattle.s2_plant_laws.proofs.TickBounds.{all_after_tick, tick_bounds_skew, verdict_bounds_wait, act_bounds_skew}
 use Rattle.s2_plant_laws.proofs.VoterTimer.{voter_timer}
-use Rattle.s2_triplex.specs.TriplexCores.{TriplexCore, IsTriplexCore, IsFrame}
+use Rattle.s2_plant_laws.proofs.Waits.{skew_below_timer}
+use Rattle.s2_triplex.specs.TriplexCores.{TriplexCore, IsTriplexCore}
 use Rattle.s2_triplex.specs.ModuleState.{ModuleState, Replica, replica_of, with_replica, replica_ask}
 use Rattle.s2_triplex.specs.ModuleAnswer.{finished_replica, is_asking}
 use Rattle.s2_triplex.specs.TriplexState.{TriplexState, module_at, posted_at}
@@ -39,35 +41,32 @@ use Rattle.s2_triplex_laws.proofs.NextRequests.{next_request}
 use Rattle.s2_triplex_laws.proofs.ClockSteps.{asks_of, clock_is, latched_is, all_ask, tick_of_clocks}
 
 -- the span of the work up to the next request
-pub work_fits : (frame j : ℕ) → IsFrame frame → j ≤ frame + 1 → j ≤ frame_work FRAME
-work_fits frame j f most = let high = f.high in omega arith
+pub skew_fits : (frame j : ℕ) → IsFrame frame → 1 ≤ j → j ≤ frame + 1 → span j ≤ j + skew_of frame
+skew_fits frame j f low most = (frame_skew frame j f low most).1
 
-pub skew_fits : (frame j : ℕ) → IsFrame frame → 1 ≤ j → j ≤ frame + 1 → span j ≤ j + SKEW_BOUND
-skew_fits frame j f low most = (span_bounds.skew j low (work_fits frame j f most)).1
-
--- the next request, from an equal start
-abbrev pub next_from : (k : TriplexCore) (s t : Replica) → t ≡ s → NextRequest (asks_from k s) k.frame → NextRequest (asks_from k t) k.frame
-next_from k s t e n = record {
+-- the next request, from an equal start, with an equal frame
+abbrev pub next_from : (k : TriplexCore) (f g : ℕ) (s t : Replica) → g ≡ f → t ≡ s → NextRequest (asks_from k s) f → NextRequest (asks_from k t) g
+next_from k f g s t same e n = record {
   cycles = n.cycles;
-  within = n.within;
+  within = subst (λ (m : ℕ). n.cycles ≤ m) (sym same) n.within;
   asks_then = subst (λ (x : Replica). asks_from k x n.cycles ≡ true) (sym e) n.asks_then;
   works_before = λ i h. subst (λ (x : Replica). asks_from k x i ≡ false) (sym e) (n.works_before i h);
 }
 
 -- a state that has gone on from the same start
-pub goes_on_keeps : (k : TriplexCore) (d e : TriplexState) (a : ReplicaEquality k d) (next : NextRequest (asks_from k a.start) k.frame) → LatchAgreement k e → StepGoesOn k d e a →
-    BoundedSkew DECISION_TIMER (next.cycles + 1) (skew_data e) → TriplexInvariant k e
+pub goes_on_keeps : (k : TriplexCore) (d e : TriplexState) (a : ReplicaEquality k d) (next : NextRequest (asks_from k a.start) d.frame) → LatchAgreement k e → StepGoesOn k d e a →
+    BoundedSkew (timer_of e.frame) (next.cycles + 1) (skew_data e) → TriplexInvariant k e
 goes_on_keeps k d e a next h o p = record {
   masking = record { agreement = h; replicas = o.replicas };
-  next = next_from k a.start o.replicas.start o.continues.start next;
+  next = next_from k d.frame e.frame a.start o.replicas.start o.continues.frame o.continues.start next;
   skew = p;
 }
 
 -- the state at the verdict of a tick
 pub record AtVerdict (e : TriplexState) (j : ℕ) : Type 0 where
-  pub waits : VerdictWaits DECISION_TIMER j SKEW_BOUND (skew_data e)
+  pub waits : VerdictWaits (timer_of e.frame) j (skew_of e.frame) (skew_data e)
   pub each : AllBounded j e.resumed e.resumed_run (since_resume (skew_data e)) e.tainted (skew_data e).clocks
-  pub before : IsBeforeTimer DECISION_TIMER e.voter.age → BoundedSkew DECISION_TIMER j (skew_data e)
+  pub before : IsBeforeTimer (timer_of e.frame) e.voter.age → BoundedSkew (timer_of e.frame) j (skew_data e)
 
 pub at_verdict : (k : TriplexCore) (d : TriplexState) (mask : ℕ) (s : CanStep k d) → tick_refusal d mask ≡ None → AtVerdict (after_firings k d mask) (s.invariant.next.cycles + 1)
 at_verdict k d mask s lawful =
@@ -80,9 +79,9 @@ at_verdict k d mask s lawful =
     let asks = all_ask k s.core d a s.invariant.next in
     let t = tick_of_clocks k s.core d mask h a lawful in
     record {
-      waits = verdict_bounds_wait DECISION_TIMER j SKEW_BOUND (asks_of k d) mask (skew_data d) (skew_data e) (skew_fits k.frame j s.core.frame (omega arith) (omega arith)) (omega arith) asks t skew;
-      each = all_after_tick DECISION_TIMER j (since_resume (skew_data d)) (asks_of k d) mask (skew_data d) (skew_data e) (let p = skew.past in omega arith) asks t skew;
-      before = λ before. tick_bounds_skew DECISION_TIMER j (asks_of k d) mask (skew_data d) (skew_data e) asks t before skew;
+      waits = verdict_bounds_wait (timer_of d.frame) j (skew_of d.frame) (asks_of k d) mask (skew_data d) (skew_data e) (skew_fits d.frame j h.frame (omega arith) (omega arith)) (skew_below_timer d.frame) asks t skew;
+      each = all_after_tick (timer_of d.frame) j (since_resume (skew_data d)) (asks_of k d) mask (skew_data d) (skew_data e) (let p = skew.past in omega arith) asks t skew;
+      before = λ before. tick_bounds_skew (timer_of d.frame) j (asks_of k d) mask (skew_data d) (skew_data e) asks t before skew;
     }
 
 -- whether a decision is due
@@ -98,9 +97,9 @@ and_true : (a b : Bool) → (a && b) ≡ true → (a ≡ true) × (b ≡ true)
 and_true true b h = (refl, h)
 and_true false b h = absurd cc
 
-timed_out_at : (age : Option ℕ) → is_timed_out age ≡ true → (a : ℕ) × (age ≡ Some a) × (DECISION_TIMER ≤ a)
-timed_out_at None h = absurd cc
-timed_out_at (Some a) h = (a, refl, voter_timer.late a h)
+timed_out_at : (timer : ℕ) (age : Option ℕ) → is_timed_out timer age ≡ true → (a : ℕ) × (age ≡ Some a) × (timer ≤ a)
+timed_out_at timer None h = absurd cc
+timed_out_at timer (Some a) h = (a, refl, voter_timer.late timer a h)
 
 abbrev pub has_latch : TriplexState → ℕ → Bool
 has_latch d p = not (is_unlatched d.voter p)
@@ -116,11 +115,11 @@ member_latch true (Some l) e h = refl
 member_latch true None e h = absurd cc
 member_latch false latch e h = absurd cc
 
-pub due_latched : (k : TriplexCore) (d : TriplexState) (j : ℕ) → LatchAgreement k d → VerdictWaits DECISION_TIMER j SKEW_BOUND (skew_data d) → is_due d.voter ≡ true → AllLatched d
-due_latched k d j h t due p hp g = elim (or_true (list_all (has_latch d) processors) (is_timed_out d.voter.age) due) [
+pub due_latched : (k : TriplexCore) (d : TriplexState) (j : ℕ) → LatchAgreement k d → VerdictWaits (timer_of d.frame) j (skew_of d.frame) (skew_data d) → is_due d.voter ≡ true → AllLatched d
+due_latched k d j h t due p hp g = elim (or_true (list_all (has_latch d) processors) (is_timed_out d.voter.timer d.voter.age) due) [
   | inl all ↦ member_latch (is_member d.voter p) (latch_of d.voter p) (good_member k d p hp g h) (all_latches d p hp all)
-  | inr old ↦ (let a = timed_out_at d.voter.age old in
-      ap (λ (l : Option Posted). is_some l) (h.good p hp g).latch ∙ (ap (λ (c : ClockData). c.full) (sym (clock_is d p hp)) ∙ t.all p a.0 hp g a.1 a.2))
+  | inr old ↦ (let a = timed_out_at d.voter.timer d.voter.age old in
+      ap (λ (l : Option Posted). is_some l) (h.good p hp g).latch ∙ (ap (λ (c : ClockData). c.full) (sym (clock_is d p hp)) ∙ t.all p a.0 hp g a.1 (subst (λ (n : ℕ). n ≤ a.0) h.timer a.2)))
 ]
 
 -- after a decision
@@ -162,12 +161,14 @@ resumed_invariant k c e m now age each =
     let at = a.at in
     let low = a.low in
     let room = a.room in
-    let high = c.frame.high in
-    let next = next_request k c a.start (omega arith) in
+    let frame = a.frame in
+    let high = m.agreement.frame.high in
+    let fits = subst IsFrame (sym a.frame) m.agreement.frame in
+    let next = next_from k a.start.frame e.frame a.start a.start (sym a.frame) refl (next_request k c a.start fits (omega arith)) in
     record {
       masking = m;
       next = next;
-      skew = resume_bounds_skew DECISION_TIMER (next.cycles + 1) (skew_data e) (omega arith) (record {
+      skew = resume_bounds_skew (timer_of e.frame) (next.cycles + 1) (skew_data e) (omega arith) (record {
         now = now;
         each = λ p hp g. subst (λ (x : ClockData). ClockAtResume e.resumed_run x) (sym (clock_is e p hp)) (clock_at_resume k c e a now p hp g (each p hp g));
         age = age;
@@ -186,7 +187,7 @@ clock_stays d e p hp m n w =
 abbrev pub KeepsAge : TriplexState → TriplexState → Type 0
 KeepsAge d e = (e.voter.age ≡ d.voter.age) ⊎ ((e.voter.age ≡ None) × (are_two_latched (skew_data e).latched ≡ false))
 
-pub act_keeps_skew : (k : TriplexCore) (d e : TriplexState) (j : ℕ) → ActEffect d e → e.posted ≡ d.posted → e.windows ≡ d.windows → LatchAgreement k e → KeepsAge d e → BoundedSkew DECISION_TIMER j (skew_data d) → BoundedSkew DECISION_TIMER j (skew_data e)
+pub act_keeps_skew : (k : TriplexCore) (d e : TriplexState) (j : ℕ) → ActEffect d e → e.posted ≡ d.posted → e.windows ≡ d.windows → LatchAgreement k e → KeepsAge d e → BoundedSkew (timer_of d.frame) j (skew_data d) → BoundedSkew (timer_of e.frame) j (skew_data e)
 act_keeps_skew k d e j acts n w h age skew =
     let on : IsActOn (skew_data d) (skew_data e) = record {
       ticks = acts.ticks;
@@ -204,4 +205,4 @@ act_keeps_skew k d e j acts n w h age skew =
         })
       ];
     } in
-    act_bounds_skew DECISION_TIMER j (skew_data d) (skew_data e) on skew
+    subst (λ (f : ℕ). BoundedSkew (timer_of f) j (skew_data e)) (sym acts.frame) (act_bounds_skew (timer_of d.frame) j (skew_data d) (skew_data e) on skew)

@@ -12,28 +12,33 @@ use Rattle.s2_agree.specs.declared.counts.TheConstants.{DELIVERY_LIMIT}
 use Rattle.s2_agree.specs.AgreedCount.{agreed_count}
 use Rattle.s2_voter.specs.declared.verdicts.Verdict.{Verdict}
 use Rattle.s2_voter.specs.declared.verdicts.Verdict.TheVariants.{Waiting, Done, Split}
+use Rattle.s2_revive.specs.MendingBoards.{mended_by, mending_begins}
 use Rattle.s2_join.specs.declared.item.Item.{Item}
 use Rattle.s2_join.specs.CopyOrder.{is_last_item}
 use Rattle.s2_script.specs.declared.entry.Act.{Act}
-use Rattle.s2_script.specs.declared.entry.Act.TheVariants.{Event as EventAct, Poke, PokeLocal, Drive, Mute, Remove, Revive, Board}
+use Rattle.s2_script.specs.declared.entry.Act.TheVariants.{Event as EventAct, Poke, PokeLocal, Drive, Mute, Remove, Revive, Board, Mend}
 use Rattle.s2_journal.specs.declared.note.Why.{Why}
 use Rattle.s2_journal.specs.declared.note.Why.TheVariants.{Differ, Late, Removed}
 use Rattle.s2_journal.specs.declared.note.Note.{Note}
-use Rattle.s2_journal.specs.declared.note.Note.TheVariants.{Out, Lost, Join}
+use Rattle.s2_journal.specs.declared.note.Note.TheVariants.{Out, Lost, Mend as MendNote, Join}
 use Rattle.s2_machine.specs.declared.deliveries.Delivery.{Delivery}
 use Rattle.s2_machine.specs.MachineRun.{bytes_of, core_machine_run}
 use Rattle.s2_triplex.specs.declared.numbers.TheConstants.{INBOX_EVENTS}
 use Rattle.s2_triplex.specs.TriplexCores.{TriplexCore}
 use Rattle.s2_triplex.specs.TriplexState.{TriplexState, Reintegration, membership_at, is_out}
 use Rattle.s2_triplex.specs.ReferenceMachine.{reference, runs}
-use Rattle.s2_triplex.specs.VotedAccess.{RepairedWord, deliveries_at, seen_in, access_of_kind}
+use Rattle.s2_triplex.specs.VotedAccess.{RepairedWord, deliveries_at, seen_in, private_values, private_events, access_of_kind}
+use Rattle.s2_private.specs.PrivateValues.{gathered}
+use Rattle.s2_base.specs.Map.{place_at}
+use Rattle.s2_machine.specs.PrivateArea.{is_private_place}
 use Rattle.s2_triplex.specs.TickFirings.{after_firings}
-use Rattle.s2_triplex.specs.VoterDecision.{StepEffects, no_effects, after_verdict, tick_verdict, voted}
+use Rattle.s2_triplex.specs.VoterDecision.{StepEffects, no_effects, after_verdict, tick_verdict, is_idle_verdict}
 use Rattle.s2_triplex.specs.CopyHolds.{is_holding, after_hold_tick}
 use Rattle.s2_triplex.specs.TickStep.{after_working_tick}
 use Rattle.s2_triplex.specs.ActStep.{is_revivable}
-use Rattle.s2_triplex.specs.StepTurns.{out_notes, repair_notes, delivery_notes, effect_notes, joined_notes_if, copy_notes, hold_notes, working_turn, hold_turn, board_notes, act_notes}
+use Rattle.s2_triplex.specs.StepTurns.{out_notes, repair_notes, delivery_notes, effect_notes, mended_notes, turn_notes, joined_notes_if, copy_notes, hold_notes, working_turn, hold_turn, board_notes, act_notes}
 use Rattle.s2_triplex_laws.specs.ReferenceAdvance.{DueUpTo, DueFrom}
+use Rattle.s2_triplex_laws.specs.declared.notes.TheConstants.{TURN_NOTES}
 use Rattle.s2_triplex_laws.specs.StepNotes.{deliveries_in, TurnTells, TickTurnTells, ActTurnTells, TurnTellsAdvance}
 
 -- the deliveries among the notes of a voter's turn
@@ -90,6 +95,10 @@ take_length n es = let e = length-take n es in omega arith
 pub count_fits : (seen : List ℕ) (delivered : ℕ) → agreed_count seen delivered - delivered ≤ DELIVERY_LIMIT
 count_fits seen delivered = omega arith
 
+one_private : (b : Bool) (event : Event) → length (if b then event ∷ [] else []) ≤ 1
+one_private true event = omega arith
+one_private false event = omega arith
+
 pub access_length : (k : TriplexCore) (d : TriplexState) (r : Request) (kind : Kind) → length (access_of_kind k d r kind).deliveries ≤ DELIVERY_LIMIT
 access_length k d r Sync =
     let count = agreed_count (seen_in d.voter r) d.delivered in
@@ -98,12 +107,32 @@ access_length k d r Sync =
     let c = deliveries_length r.run (take (count - d.delivered) d.inbox) in
     omega arith
 access_length k d r Load = omega arith
-access_length k d r Store = omega arith
+access_length k d r Store =
+    let a = one_private (is_private_place (place_at r.address)) (gathered d.voter r (private_values d.modules)) in
+    let b = deliveries_length r.run (private_events d r Store) in
+    omega arith
 
 pub verdict_length : (k : TriplexCore) (d : TriplexState) (v : Verdict) → length (after_verdict k d v).effects.deliveries ≤ DELIVERY_LIMIT
 verdict_length k d Waiting = omega arith
 verdict_length k d Split = omega arith
 verdict_length k d (Done r differ late) = access_length k d r r.kind
+
+-- the notes of a voter's turn, be it idle or not
+mended_few : (tick : ℕ) (mended : Option ℕ) → (deliveries_in (mended_notes tick mended) ≡ []) × (length (mended_notes tick mended) ≤ 1)
+mended_few tick None = (refl, omega arith)
+mended_few tick (Some board) = (refl, omega arith)
+
+record TurnNotesTell (notes : List Note) (effects : StepEffects) : Type 0 where
+  deliveries : deliveries_in notes ≡ effects.deliveries
+  few : length notes ≤ TURN_NOTES
+
+turn_tells_effects : (k : TriplexCore) (d : TriplexState) (tick : ℕ) (mended : Option ℕ) (v : Verdict) → TurnNotesTell (turn_notes (is_idle_verdict v) tick mended (after_verdict k d v).effects) (after_verdict k d v).effects
+turn_tells_effects k d tick mended Waiting = let few = mended_few tick mended in let short = few.1 in record { deliveries = few.0; few = omega arith }
+turn_tells_effects k d tick mended Split = let few = mended_few tick mended in let short = few.1 in record { deliveries = few.0; few = omega arith }
+turn_tells_effects k d tick mended (Done r differ late) =
+    let e = (after_verdict k d (Done r differ late)).effects in
+    let short = effects_length tick e (verdict_length k d (Done r differ late)) in
+    record { deliveries = effects_in tick e; few = omega arith }
 
 -- the note of a hold
 joined_few : (b : Bool) (tick : ℕ) (j : Reintegration) → (deliveries_in (joined_notes_if b tick j) ≡ []) × (length (joined_notes_if b tick j) ≤ 1)
@@ -128,8 +157,8 @@ tick_tells k d mask = by_hold (is_holding d.reintegration)
         let short = few.1 in
         record { deliveries = few.0; out = refl; few = omega arith }
     by_hold false =
-        let short = effects_length (d.ticks + 1) (voted k d mask).effects (verdict_length k (after_firings k d mask) (tick_verdict k d mask)) in
-        record { deliveries = effects_in (d.ticks + 1) (voted k d mask).effects; out = refl; few = omega arith }
+        let tells = turn_tells_effects k (after_firings k d mask) (d.ticks + 1) (mended_by d.boards.mending) (tick_verdict k d mask) in
+        record { deliveries = tells.deliveries; out = refl; few = tells.few }
 
 -- an act
 one_if : (b : Bool) (ns : List Note) → deliveries_in ns ≡ [] → length ns ≤ 1 → (deliveries_in (if b then [] else ns) ≡ []) × (length (if b then [] else ns) ≤ 1)
@@ -153,6 +182,7 @@ act_few d (Mute p) = (refl, omega arith)
 act_few d (Remove p) = one_if (is_out (membership_at d.memberships p)) (Out d.ticks p Removed ∷ []) refl (omega arith)
 act_few d (Revive p) = only_if (is_revivable p d) (Join d.ticks p ∷ []) refl (omega arith)
 act_few d (Board fault) = board_few d.ticks fault
+act_few d (Mend board) = only_if (mending_begins board d.boards) (MendNote d.ticks board ∷ []) refl (omega arith)
 
 pub act_tells : ActTurnTells
 act_tells d act =

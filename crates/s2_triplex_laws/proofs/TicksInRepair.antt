@@ -1,6 +1,6 @@
 -- A lawful tick, in a hold or not, keeps what a reintegration keeps, beside all else.
 use Rattle.std.proofs.Common.{◌≡◌, ℕ, ◌^◌, ◌<◌, List, [], ◌∷◌, refl, sym, ap, subst, ◌∙◌}
-use Rattle.std.specs.Prelude.{Bool, true, false, not, Some, None, if◌then◌else◌}
+use Rattle.std.specs.Prelude.{Bool, true, false, not, Some, None}
 use Rattle.std.specs.declared.option.Option.{Option}
 use Rattle.s2_ports.specs.declared.requests.Request.{Request}
 use Rattle.s2_ports.specs.declared.requests.Kind.{Kind}
@@ -20,14 +20,14 @@ use Rattle.s2_triplex.specs.ModuleAnswer.{finished_replica}
 use Rattle.s2_triplex.specs.TriplexState.{TriplexState, Reintegration, module_at}
 use Rattle.s2_triplex.specs.TickFirings.{after_firings}
 use Rattle.s2_triplex.specs.VotedAccess.{voted_access, access_of_kind}
-use Rattle.s2_triplex.specs.VoterDecision.{StepEffects, no_effects, is_named, after_verdict, tick_verdict, is_sync_verdict}
-use Rattle.s2_triplex.specs.CopyHolds.{hold_begun, hold_begun_if, is_holding, after_idle_tick, after_copy, word_copied, joined, saved_word_copied, item_copied, copied, after_hold_tick}
-use Rattle.s2_triplex.specs.TickStep.{after_working_tick}
+use Rattle.s2_triplex.specs.VoterDecision.{StepEffects, no_effects, is_named, after_verdict, tick_verdict, voted, is_sync_verdict}
+use Rattle.s2_triplex.specs.CopyHolds.{hold_begun, hold_begun_if, is_holding, after_idle_tick, after_copy, word_copied, joined, saved_word_copied, item_copied, copied}
+use Rattle.s2_triplex.specs.TickStep.{after_voting_tick}
 use Rattle.s2_triplex.specs.StepRefusals.{slow_reason, tick_refusal}
 use Rattle.s2_triplex_laws.specs.LatchAgreement.{IsGood, LatchAgreement}
 use Rattle.s2_triplex_laws.specs.TriplexInvariant.{CanStep, StepInvariant}
 use Rattle.s2_triplex_laws.specs.RepairInvariant.{RepairInvariant}
-use Rattle.s2_triplex_laws.specs.RepairSteps.{CanStepInRepair, RepairStep, TickKeepsRepair}
+use Rattle.s2_triplex_laws.specs.RepairSteps.{CanStepInRepair, RepairStep}
 use Rattle.s2_triplex_laws.proofs.RightDecisions.{verdict_waits}
 use Rattle.s2_triplex_laws.proofs.AfterDecisions.{slow_replica, good_replica}
 use Rattle.s2_triplex_laws.proofs.MaskingLaws.{VerdictTold, due_verdict, decision_for, firings_mask}
@@ -95,7 +95,7 @@ items_by k d e j (Local i ∷ rest) words x =
     repair_step k d (word_copied e j i) no_effects (steps_join k d e (word_copied e j i) no_effects x.step (word_invariant k e j i (can_go_on k d e j x) (x.repair.opened j x.is)))
     (word_keeps_repair k e j i rest x.step.invariant.masking.agreement x.step.invariant.masking.replicas x.repair x.is words)
 
-hold_by : (k : TriplexCore) (d : TriplexState) (mask : ℕ) (s : CanStepInRepair k d) → d.ticks < 2 ^ 40 → tick_refusal d mask ≡ None → (r : Option Reintegration) → d.reintegration ≡ r → is_holding r ≡ true →
+pub hold_by : (k : TriplexCore) (d : TriplexState) (mask : ℕ) (s : CanStepInRepair k d) → d.ticks < 2 ^ 40 → tick_refusal d mask ≡ None → (r : Option Reintegration) → d.reintegration ≡ r → is_holding r ≡ true →
     RepairStep k d (copied (after_idle_tick d mask) r) no_effects
 hold_by k d mask s room lawful None is held = absurd cc
 hold_by k d mask s room lawful (Some j) is held =
@@ -171,9 +171,5 @@ working_by k d mask s room lawful free false due =
     (repair_step k d e no_effects (subst (λ (w : Verdict). StepInvariant k d (after_verdict k e w).next (after_verdict k e w).effects) is (tick_keeps k d mask (can_step k d s) room lawful))
     (firings_keep_repair k s.core d mask (none_slow d mask lawful) free s.invariant.masking.agreement s.repair))
 
-pub tick_keeps_repair : TickKeepsRepair
-tick_keeps_repair k d mask s room lawful = by_hold (is_holding d.reintegration) refl
-  where
-    by_hold : (b : Bool) → is_holding d.reintegration ≡ b → (let t = (if b then record { next = after_hold_tick d mask; effects = no_effects } else after_working_tick k d mask) in RepairStep k d t.next t.effects)
-    by_hold true is = hold_by k d mask s room lawful d.reintegration refl is
-    by_hold false is = working_by k d mask s room lawful is (is_due (after_firings k d mask).voter) refl
+pub voting_keeps : (k : TriplexCore) (d : TriplexState) (mask : ℕ) → CanStepInRepair k d → d.ticks < 2 ^ 40 → tick_refusal d mask ≡ None → is_holding d.reintegration ≡ false → RepairStep k d (after_voting_tick k d mask) (voted k d mask).effects
+voting_keeps k d mask s room lawful free = working_by k d mask s room lawful free (is_due (after_firings k d mask).voter) refl

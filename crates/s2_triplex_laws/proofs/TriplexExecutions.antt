@@ -1,5 +1,5 @@
 -- Every execution.
-use Rattle.std.proofs.Common.{◌≡◌, ℕ, ◌^◌, ◌<◌, List, [], ◌∷◌, refl, subst, arith}
+use Rattle.std.proofs.Common.{◌≡◌, ℕ, ◌^◌, ◌<◌, List, [], ◌∷◌, refl, sym, ap, ◌∙◌, subst, arith}
 use Rattle.std.specs.Prelude.{Bool, true, false, not, nat_lt, ◌&&◌, Some, None, Ok, Err, is_some, if◌then◌else◌}
 use Rattle.std.specs.List.{All}
 use Rattle.std.specs.declared.option.Option.{Option}
@@ -12,7 +12,16 @@ use Rattle.s2_triplex.specs.TriplexCores.{TriplexCore, IsTriplexCore}
 use Rattle.s2_triplex.specs.TriplexState.{TriplexState, started_triplex}
 use Rattle.s2_triplex.specs.ReferenceMachine.{runs}
 use Rattle.s2_triplex.specs.StepRefusals.{tick_refusal, act_refusal}
-use Rattle.s2_triplex.specs.StepTurns.{Turn, tick_turn, act_turn, unless_refused}
+use Rattle.s2_script.specs.declared.entry.Act.{Act}
+use Rattle.s2_device.specs.declared.slots.Slots.{Slots}
+use Rattle.s2_device.specs.DeviceState.{Device, empty_slots}
+use Rattle.s2_triplex.specs.WaitingEvents.{AreFromOutside}
+use Rattle.s2_triplex.specs.TickStep.{ticked}
+use Rattle.s2_triplex.specs.ActStep.{acted}
+use Rattle.s2_triplex.specs.StepTurns.{Turn, tick_turn, act_turn, unless_refused, next_unless_refused}
+use Rattle.s2_triplex_laws.specs.PrivateFacts.{printed_slots}
+use Rattle.s2_triplex_laws.proofs.PrivateFacts.{acts_leave_devices, printed_both, ticks_print_slots}
+use Rattle.s2_triplex_laws.proofs.StepNotes.{tick_tells, act_tells}
 use Rattle.s2_triplex_laws.specs.ReferenceAdvance.{ReferenceAdvance}
 use Rattle.s2_triplex_laws.specs.ReferenceFacts.{RunToReference}
 use Rattle.s2_triplex_laws.specs.StepNotes.{deliveries_in, told_effects}
@@ -47,16 +56,34 @@ record Accepted (k : TriplexCore) (old new : TriplexState) (turn : Turn) : Type 
   state : IsTriplexState k new
   order : AreInRunOrder (deliveries_in turn.notes)
   advance : ReferenceAdvance k old new (told_effects turn)
+  slots : new.device.slots ≡ printed_slots old.device.slots (deliveries_in turn.notes)
+
+-- the slots after a step that is not refused
+tick_slots : (k : TriplexCore) (c : IsTriplexCore k) (d : TriplexState) (mask : ℕ) (turn : Turn) (r : Option Reason) → AreFromOutside d.inbox → unless_refused r (tick_turn k d mask) ≡ Ok turn →
+    (next_unless_refused r (ticked k d mask).next d).device.slots ≡ printed_slots d.device.slots (deliveries_in turn.notes)
+tick_slots k c d mask turn (Some reason) h is = absurd cc
+tick_slots k c d mask turn None h is =
+    ticks_print_slots k d mask c h ∙
+    (ap (printed_slots d.device.slots) (sym (tick_tells k d mask).deliveries) ∙
+    ap (λ (t : Turn). printed_slots d.device.slots (deliveries_in t.notes)) (one_turn (tick_turn k d mask) turn None is))
+
+act_slots : (d : TriplexState) (a : Act) (turn : Turn) (r : Option Reason) → unless_refused r (act_turn d a) ≡ Ok turn →
+    (next_unless_refused r (acted a d) d).device.slots ≡ printed_slots d.device.slots (deliveries_in turn.notes)
+act_slots d a turn (Some reason) is = absurd cc
+act_slots d a turn None is =
+    ap (λ (v : Device). v.slots) (acts_leave_devices d a) ∙
+    (ap (printed_slots d.device.slots) (sym (act_tells d a).deliveries) ∙
+    ap (λ (t : Turn). printed_slots d.device.slots (deliveries_in t.notes)) (one_turn (act_turn d a) turn None is))
 
 accepted_step : (k : TriplexCore) (c : IsTriplexCore k) (d : TriplexState) (s : TriplexStep) (turn : Turn) → IsTriplexState k d → IsStepCall s → d.halt ≡ None → has_ticks_left d s ≡ true → step_answer k d s ≡ Ok turn → Accepted k d (next_after_step k d s) turn
 accepted_step k c d (clock_tick mask) turn h call halt left answer =
     let room = below_is d.ticks (2 ^ 40) left in
-    record { state = tick_keeps_state k d mask c h halt room; order = subst (λ (t : Turn). AreInRunOrder (deliveries_in t.notes)) (one_turn (tick_turn k d mask) turn (tick_refusal d mask) answer) (tick_order k d mask); advance = tick_advances k d mask turn c h halt room answer }
-accepted_step k c d (script_act a) turn h call halt left answer = record { state = act_keeps_state k d a c h halt call; order = subst (λ (t : Turn). AreInRunOrder (deliveries_in t.notes)) (one_turn (act_turn d a) turn (act_refusal d a) answer) (act_order d a); advance = act_advances k d a turn c h halt call answer }
+    record { state = tick_keeps_state k d mask c h halt room; order = subst (λ (t : Turn). AreInRunOrder (deliveries_in t.notes)) (one_turn (tick_turn k d mask) turn (tick_refusal d mask) answer) (tick_order k d mask); advance = tick_advances k d mask turn c h halt room answer; slots = tick_slots k c d mask turn (tick_refusal d mask) h.bounds.waiting answer }
+accepted_step k c d (script_act a) turn h call halt left answer = record { state = act_keeps_state k d a c h halt call; order = subst (λ (t : Turn). AreInRunOrder (deliveries_in t.notes)) (one_turn (act_turn d a) turn (act_refusal d a) answer) (act_order d a); advance = act_advances k d a turn c h halt call answer; slots = act_slots d a turn (act_refusal d a) answer }
 
 -- what is known of an execution
-execution : (k : TriplexCore) (c : IsTriplexCore k) (m : Machine) (x : Execution) → RunToReference k m x.state x.deliveries x.bytes → AreInRunOrder x.deliveries → IsTriplexState k x.state → IsExecution k m x
-execution k c m x came order state = record {
+execution : (k : TriplexCore) (c : IsTriplexCore k) (m : Machine) (x : Execution) → RunToReference k m x.state x.deliveries x.bytes → AreInRunOrder x.deliveries → IsTriplexState k x.state → x.state.device.slots ≡ printed_slots empty_slots x.deliveries → IsExecution k m x
+execution k c m x came order state slots = record {
   from = came.low;
   is = came.is;
   order = order;
@@ -64,11 +91,12 @@ execution k c m x came order state = record {
   good = good_processors_are_in k x.state state.invariant.masking.agreement;
   state = state;
   in_time = λ j is. reintegration_ends_in_time k x.state j c state.invariant state.repair state.counted is;
+  slots = slots;
 }
 
 pub execution_begins : ExecutionBegins
-execution_begins k entry local global c size boards =
-    execution k c (started entry local global) (execution_of (started_triplex k.frame entry local global)) (start_is_reference k entry local global) tt (start_is_state k entry local global c size boards)
+execution_begins k frame entry local global c f size boards =
+    execution k c (started entry local global) (execution_of (started_triplex frame entry local global)) (start_is_reference k frame entry local global) tt (start_is_state k frame entry local global c f size boards) refl
 
 pub execution_goes_on : ExecutionGoesOn
 execution_goes_on k m x s turn c h call halt left answer =
@@ -76,6 +104,7 @@ execution_goes_on k m x s turn c h call halt left answer =
     let came : RunToReference k m x.state x.deliveries x.bytes = record { low = h.from; due = h.due; is = h.is } in
     execution k c m (after_turn x (next_after_step k x.state s) turn) (run_goes_on k m x.state (next_after_step k x.state s) (told_effects turn) x.deliveries x.bytes came a.advance)
     (order_both (runs x.state) x.deliveries (deliveries_in turn.notes) h.order h.due a.advance.from a.order) a.state
+    (a.slots ∙ (ap (λ (s : Slots). printed_slots s (deliveries_in turn.notes)) h.slots ∙ sym (printed_both x.deliveries (deliveries_in turn.notes) empty_slots)))
 
 step_taken : (k : TriplexCore) (c : IsTriplexCore k) (m : Machine) (x : Execution) (s : TriplexStep) → IsExecution k m x → IsStepCall s → takes_step k x.state s ≡ true → IsExecution k m (after_answer x (next_after_step k x.state s) (step_answer k x.state s))
 step_taken k c m x s h call takes =
@@ -100,11 +129,11 @@ steps_taken k c m (s ∷ steps) x calls h =
     by_test false is next = h
 
 pub every_execution : EveryExecution
-every_execution k entry local global steps c size boards calls =
-    steps_taken k c (started entry local global) steps (execution_of (started_triplex k.frame entry local global)) calls (execution_begins k entry local global c size boards)
+every_execution k frame entry local global steps c f size boards calls =
+    steps_taken k c (started entry local global) steps (execution_of (started_triplex frame entry local global)) calls (execution_begins k frame entry local global c f size boards)
 
 -- the machine that is built
 pub every_r2000_execution : EveryR2000Execution
-every_r2000_execution entry local global steps size boards calls =
-    let x = every_execution r2000_triplex entry local global steps r2000_triplex_core size boards calls in
+every_r2000_execution frame entry local global steps f size boards calls =
+    let x = every_execution r2000_triplex frame entry local global steps r2000_triplex_core f size boards calls in
     record { is = x.is; execution = x }

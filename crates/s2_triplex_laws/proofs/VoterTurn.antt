@@ -63,7 +63,7 @@ joiner_added v joiner low size = ap (λ (ms : List Bool). record v { members = m
 pub removal_call : RemovalIsACall
 removal_call p v low members latches =
     ap (λ (ms : List Bool). record (voter_without p v) { members = ms }) (false_is_three v.members p low members) ∙
-    ap (λ (ls : List (Option Posted)). record { members = slice_set v.members p false; latches = ls; age = remaining_age (has_two_latches ls) v.age }) (sym (set_is_three v.latches p None None low latches))
+    ap (λ (ls : List (Option Posted)). record { members = slice_set v.members p false; latches = ls; age = remaining_age (has_two_latches ls) v.age; timer = v.timer }) (sym (set_is_three v.latches p None None low latches))
 
 -- latching: the age that has begun
 begun_stays : (two : Bool) (age : Option ℕ) → started_age two (started_age two age) ≡ started_age two age
@@ -71,10 +71,10 @@ begun_stays true None = refl
 begun_stays false None = refl
 begun_stays two (Some age) = refl
 
-begun_at_first : (two : Bool) (age : Option ℕ) → is_some age ≡ two → started_age two (older age) ≡ older age
-begun_at_first two (Some age) h = refl
-begun_at_first false None h = refl
-begun_at_first true None h = absurd cc
+begun_at_first : (timer : ℕ) (two : Bool) (age : Option ℕ) → is_some age ≡ two → started_age two (older timer age) ≡ older timer age
+begun_at_first timer two (Some age) h = refl
+begun_at_first timer false None h = refl
+begun_at_first timer true None h = absurd cc
 
 -- one processor's latch
 abbrev with_taken : Option Posted → ℕ → VoterState → VoterState
@@ -140,33 +140,33 @@ third_grows (Some a) None (Some c) None h two = absurd (let x = h refl in cc)
 third_grows None (Some b) (Some c) None h two = absurd (let x = h refl in cc)
 
 -- the three together
-taken_together : (ports : ℕ → Option Posted) (members : List Bool) (latches : List (Option Posted)) (age : Option ℕ) → length members ≡ 3 → length latches ≡ 3 →
-    with_taken (ports 2) 2 (with_taken (ports 1) 1 (with_taken (ports 0) 0 (record { members = members; latches = latches; age = older age }))) ≡
-    latched_from ports (record { members = members; latches = latches; age = age })
-taken_together ports (m ∷ n ∷ o ∷ []) (a ∷ b ∷ c ∷ []) age h k =
+taken_together : (ports : ℕ → Option Posted) (timer : ℕ) (members : List Bool) (latches : List (Option Posted)) (age : Option ℕ) → length members ≡ 3 → length latches ≡ 3 →
+    with_taken (ports 2) 2 (with_taken (ports 1) 1 (with_taken (ports 0) 0 (record { members = members; latches = latches; age = older timer age; timer = timer }))) ≡
+    latched_from ports (record { members = members; latches = latches; age = age; timer = timer })
+taken_together ports timer (m ∷ n ∷ o ∷ []) (a ∷ b ∷ c ∷ []) age h k =
     let x = latch_taken m a (ports 0) in
     let y = latch_taken n b (ports 1) in
     let z = latch_taken o c (ports 2) in
-    ap (λ (age : Option ℕ). record { members = m ∷ n ∷ o ∷ []; latches = x ∷ y ∷ z ∷ []; age = age })
-    (ap (started_age (has_two_latches (x ∷ y ∷ z ∷ []))) (begun_before (has_two_latches (x ∷ b ∷ c ∷ [])) (has_two_latches (x ∷ y ∷ c ∷ [])) (older age) (second_grows x b c y (latch_grows n b (ports 1)))) ∙
-    begun_before (has_two_latches (x ∷ y ∷ c ∷ [])) (has_two_latches (x ∷ y ∷ z ∷ [])) (older age) (third_grows x y c z (latch_grows o c (ports 2))))
-taken_together ports members [] age h k = absurd (omega arith)
-taken_together ports members (a ∷ []) age h k = absurd (omega arith)
-taken_together ports members (a ∷ b ∷ []) age h k = absurd (omega arith)
-taken_together ports members (a ∷ b ∷ c ∷ d ∷ ls) age h k = absurd (omega arith)
-taken_together ports [] (a ∷ b ∷ c ∷ []) age h k = absurd (omega arith)
-taken_together ports (m ∷ []) (a ∷ b ∷ c ∷ []) age h k = absurd (omega arith)
-taken_together ports (m ∷ n ∷ []) (a ∷ b ∷ c ∷ []) age h k = absurd (omega arith)
-taken_together ports (m ∷ n ∷ o ∷ q ∷ ms) (a ∷ b ∷ c ∷ []) age h k = absurd (omega arith)
+    ap (λ (age : Option ℕ). record { members = m ∷ n ∷ o ∷ []; latches = x ∷ y ∷ z ∷ []; age = age; timer = timer })
+    (ap (started_age (has_two_latches (x ∷ y ∷ z ∷ []))) (begun_before (has_two_latches (x ∷ b ∷ c ∷ [])) (has_two_latches (x ∷ y ∷ c ∷ [])) (older timer age) (second_grows x b c y (latch_grows n b (ports 1)))) ∙
+    begun_before (has_two_latches (x ∷ y ∷ c ∷ [])) (has_two_latches (x ∷ y ∷ z ∷ [])) (older timer age) (third_grows x y c z (latch_grows o c (ports 2))))
+taken_together ports timer members [] age h k = absurd (omega arith)
+taken_together ports timer members (a ∷ []) age h k = absurd (omega arith)
+taken_together ports timer members (a ∷ b ∷ []) age h k = absurd (omega arith)
+taken_together ports timer members (a ∷ b ∷ c ∷ d ∷ ls) age h k = absurd (omega arith)
+taken_together ports timer [] (a ∷ b ∷ c ∷ []) age h k = absurd (omega arith)
+taken_together ports timer (m ∷ []) (a ∷ b ∷ c ∷ []) age h k = absurd (omega arith)
+taken_together ports timer (m ∷ n ∷ []) (a ∷ b ∷ c ∷ []) age h k = absurd (omega arith)
+taken_together ports timer (m ∷ n ∷ o ∷ q ∷ ms) (a ∷ b ∷ c ∷ []) age h k = absurd (omega arith)
 
 pub latching_calls : LatchingByCalls
 latching_calls ports v kept =
     let w = ticked_voter v in
     let u = with_taken (ports 0) 0 w in
     let t = with_taken (ports 1) 1 u in
-    ap (λ (s : VoterState). latched_at (ports 2) 2 (latched_at (ports 1) 1 s)) (latched_is (ports 0) 0 w (begun_at_first (has_two_latches v.latches) v.age kept.aged)) ∙
+    ap (λ (s : VoterState). latched_at (ports 2) 2 (latched_at (ports 1) 1 s)) (latched_is (ports 0) 0 w (begun_at_first v.timer (has_two_latches v.latches) v.age kept.aged)) ∙
     (ap (λ (s : VoterState). latched_at (ports 2) 2 s) (latched_is (ports 1) 1 u (begun_stays (has_two_latches u.latches) w.age)) ∙
-    (latched_is (ports 2) 2 t (begun_stays (has_two_latches t.latches) u.age) ∙ taken_together ports v.members v.latches v.age kept.members kept.latches))
+    (latched_is (ports 2) 2 t (begun_stays (has_two_latches t.latches) u.age) ∙ taken_together ports v.timer v.members v.latches v.age kept.members kept.latches))
 
 -- who leaves at a decision
 abbrev stays : List Bool → Option ℕ → Option ℕ → ℕ → Bool
@@ -176,11 +176,11 @@ or_none : (b : Bool) → (b || false) ≡ b
 or_none true = refl
 or_none false = refl
 
-some_leave : (members : List Bool) (age : Option ℕ) (differ late : Option ℕ) → length members ≡ 3 → IfSome differ (λ p. p < 3) → IfSome late (λ p. p < 3) →
-    (latches : List (Option Posted)) → (without_named late (without_named differ (record { members = members; latches = latches; age = age }))).members ≡ three_of (stays members differ late)
-some_leave members age None None size a b latches = sym (list_is_three members false size)
-some_leave members age None (Some q) size a b latches = sym (false_is_three members q b size)
-some_leave members age (Some p) None size a b latches =
+some_leave : (timer : ℕ) (members : List Bool) (age : Option ℕ) (differ late : Option ℕ) → length members ≡ 3 → IfSome differ (λ p. p < 3) → IfSome late (λ p. p < 3) →
+    (latches : List (Option Posted)) → (without_named late (without_named differ (record { members = members; latches = latches; age = age; timer = timer }))).members ≡ three_of (stays members differ late)
+some_leave timer members age None None size a b latches = sym (list_is_three members false size)
+some_leave timer members age None (Some q) size a b latches = sym (false_is_three members q b size)
+some_leave timer members age (Some p) None size a b latches =
     sym (three_same members p ∙ false_is_three members p a size)
   where
     three_same : (members : List Bool) (p : ℕ) → three_of (stays members (Some p) None) ≡ three_of (λ q. not (p == q) && slice_index_or members q false)
@@ -188,7 +188,7 @@ some_leave members age (Some p) None size a b latches =
         ap (λ (x : Bool). (not x && slice_index_or members 0 false) ∷ (not ((p == 1) || false) && slice_index_or members 1 false) ∷ (not ((p == 2) || false) && slice_index_or members 2 false) ∷ []) (or_none (p == 0)) ∙
         (ap (λ (x : Bool). (not (p == 0) && slice_index_or members 0 false) ∷ (not x && slice_index_or members 1 false) ∷ (not ((p == 2) || false) && slice_index_or members 2 false) ∷ []) (or_none (p == 1)) ∙
         ap (λ (x : Bool). (not (p == 0) && slice_index_or members 0 false) ∷ (not (p == 1) && slice_index_or members 1 false) ∷ (not x && slice_index_or members 2 false) ∷ []) (or_none (p == 2)))
-some_leave members age (Some p) (Some q) size a b latches = two_leave members p q size a b
+some_leave timer members age (Some p) (Some q) size a b latches = two_leave members p q size a b
   where
     two_leave : (members : List Bool) (p q : ℕ) → length members ≡ 3 → p < 3 → q < 3 → slice_set (slice_set members p false) q false ≡ three_of (stays members (Some p) (Some q))
     two_leave (m ∷ n ∷ o ∷ []) zero zero size a b = refl
@@ -207,9 +207,15 @@ some_leave members age (Some p) (Some q) size a b latches = two_leave members p 
     two_leave (m ∷ n ∷ []) p q size a b = absurd (omega arith)
     two_leave (m ∷ n ∷ o ∷ r ∷ ms) p q size a b = absurd (omega arith)
 
+-- who leaves leaves the timer
+timer_left : (named : Option ℕ) (v : VoterState) → (without_named named v).timer ≡ v.timer
+timer_left None v = refl
+timer_left (Some p) v = refl
+
 pub members_leave : MembersLeaveByCalls
 members_leave d differ late size a b =
-    ap (λ (ms : List Bool). record { members = ms; latches = no_latches; age = None }) (some_leave d.voter.members d.voter.age differ late size a b d.voter.latches)
+    ap (λ (timer : ℕ). record { members = (without_named late (without_named differ d.voter)).members; latches = no_latches; age = None; timer = timer }) (timer_left late (without_named differ d.voter) ∙ timer_left differ d.voter) ∙
+    ap (λ (ms : List Bool). record { members = ms; latches = no_latches; age = None; timer = d.voter.timer }) (some_leave d.voter.timer d.voter.members d.voter.age differ late size a b d.voter.latches)
 
 -- who is named is one of three
 found_in : (test : ℕ → Bool) → IfSome (find test processors) (λ p. p < 3)

@@ -12,10 +12,11 @@ use Rattle.s2_voter.specs.Verdicts.{verdict_of}
 use Rattle.s2_machine.specs.Cores.{is_sync}
 use Rattle.s2_machine.specs.declared.deliveries.Delivery.{Delivery}
 use Rattle.s2_script.specs.declared.entry.Act.{Act}
-use Rattle.s2_script.specs.declared.entry.Act.TheVariants.{Event as EventAct, Poke, PokeLocal, Drive, Mute, Remove, Revive, Board}
+use Rattle.s2_script.specs.declared.entry.Act.TheVariants.{Event as EventAct, Poke, PokeLocal, Drive, Mute, Remove, Revive, Board, Mend}
 use Rattle.s2_triplex.specs.declared.numbers.TheConstants.{INBOX_EVENTS}
 use Rattle.s2_triplex.specs.TriplexCores.{TriplexCore}
 use Rattle.s2_triplex.specs.TriplexState.{TriplexState}
+use Rattle.s2_triplex.specs.WaitingEvents.{AreFromOutside, from_outside}
 use Rattle.s2_triplex.specs.VoterDecision.{after_verdict}
 use Rattle.s2_triplex.specs.TickStep.{ticked}
 use Rattle.s2_triplex.specs.ActStep.{acted}
@@ -27,9 +28,9 @@ abbrev pub events_of : List Delivery → List Event
 events_of [] = []
 events_of (d ∷ ds) = d.event ∷ events_of ds
 
--- the events that a tick delivers, and then those that still wait, are those that waited
+-- the events from outside that a tick delivers, and then those that still wait, are those that waited
 abbrev pub TicksDeliverInOrder : Type 0
-TicksDeliverInOrder = (k : TriplexCore) (d : TriplexState) (mask : ℕ) → events_of (ticked k d mask).effects.deliveries ++ (ticked k d mask).next.inbox ≡ d.inbox
+TicksDeliverInOrder = (k : TriplexCore) (d : TriplexState) (mask : ℕ) → AreFromOutside d.inbox → from_outside (events_of (ticked k d mask).effects.deliveries) ++ (ticked k d mask).next.inbox ≡ d.inbox
 
 -- the event that an act brings, where there is room for it
 abbrev pub accepted_by : TriplexState → Act → List Event
@@ -41,6 +42,7 @@ accepted_by d (Mute p) = []
 accepted_by d (Remove p) = []
 accepted_by d (Revive p) = []
 accepted_by d (Board fault) = []
+accepted_by d (Mend board) = []
 
 -- it waits behind those that waited
 abbrev pub ActsAcceptInOrder : Type 0

@@ -3,7 +3,9 @@ use Rattle.std.specs.Prelude.{ℕ, ◌≡◌, ◌<◌, ◌≤◌, ◌+◌, lengt
 use Rattle.std.specs.declared.option.Option.{Option}
 use Rattle.s2_ports.specs.declared.requests.Posted.{Posted}
 use Rattle.s2_device.specs.DeviceState.{lines_of}
-use Rattle.s2_duplex.specs.DuplexBoards.{IsDuplex}
+use Rattle.s2_revive.specs.MendingBoards.{AreMendingBoards}
+use Rattle.s2_clock.specs.Frames.{IsFrame}
+use Rattle.s2_voter.specs.Timers.{timer_of}
 use Rattle.s2_voter.specs.VoterState.{IsVoter, is_member, latch_of}
 use Rattle.s2_machine.specs.declared.ask.Ask.TheVariants.{Outside}
 use Rattle.s2_triplex.specs.declared.membership.Membership.TheVariants.{In}
@@ -36,17 +38,18 @@ pub record GoodMember (k : TriplexCore) (d : TriplexState) (p : ℕ) : Type 0 wh
   pub latch : latch_of d.voter p ≡ (module_at d.modules p).port
   pub lines : (module_at d.modules p).cpu.lines ≡ lines_of d.device
 
--- the members are the processors that are in, the voter is in one of its states, every good processor is a
+-- the frame is one that a machine may be given, and the timer is that of it; the members are the processors that are in, the voter is in one of its states, every good processor is a
 -- member whose latch is its own, the events that wait are those accepted and not delivered, and the boards stand
--- for one list
+-- for one list, of which one that mends has the words below its cursor
 pub record LatchAgreement (k : TriplexCore) (d : TriplexState) : Type 0 where
-  pub frame : d.frame ≡ k.frame
+  pub frame : IsFrame d.frame
+  pub timer : d.voter.timer ≡ timer_of d.frame
   pub members : (p : ℕ) → p < 3 → is_member d.voter p ≡ is_in (membership_at d.memberships p)
   pub voter : IsVoter d.voter
   pub good : (p : ℕ) → p < 3 → IsGood d p → GoodMember k d p
   pub inbox : d.delivered + length d.inbox ≡ d.accepted
   pub room : length d.inbox ≤ INBOX_EVENTS
-  pub boards : IsDuplex d.boards
+  pub boards : AreMendingBoards d.boards
 
 -- every good processor is latched
 abbrev pub AllLatched : TriplexState → Type 0

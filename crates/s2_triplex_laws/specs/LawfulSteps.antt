@@ -1,17 +1,18 @@
 -- Each lawful step keeps all that a state keeps, with no premise but that it is lawful; and so does the first state.
-use Rattle.std.specs.Prelude.{ℕ, ◌≡◌, ◌≢◌, ◌<◌, ◌≤◌, ◌-◌, ◌^◌, List, length, true, None}
+use Rattle.std.specs.Prelude.{ℕ, ◌≡◌, ◌≢◌, ◌<◌, ◌≤◌, ◌+◌, ◌^◌, List, length, true, None}
 use Rattle.std.specs.declared.option.Option.{Option}
 use Rattle.s2_base.specs.declared.map.TheConstants.{GLOBAL_WORDS}
 use Rattle.s2_ports.specs.declared.events.Event.{Event}
 use Rattle.s2_ports.specs.declared.events.BoardFault.{BoardFault}
 use Rattle.s2_ports.specs.declared.requests.Request.{Request}
-use Rattle.s2_duplex.specs.DuplexBoards.{contents}
+use Rattle.s2_revive.specs.MendingBoards.{memory_of}
 use Rattle.s2_duplex.specs.ToleratedFaults.{IsFaultBelow}
 use Rattle.s2_voter.specs.declared.verdicts.Verdict.TheVariants.{Done, Split}
 use Rattle.s2_voter.specs.Verdicts.{is_due}
 use Rattle.s2_script.specs.declared.entry.Act.{Act}
-use Rattle.s2_script.specs.declared.entry.Act.TheVariants.{Event as EventAct, Poke, PokeLocal, Drive, Mute, Remove, Revive, Board}
-use Rattle.s2_plant_laws.specs.declared.numbers.TheConstants.{STATED_WAIT}
+use Rattle.s2_script.specs.declared.entry.Act.TheVariants.{Event as EventAct, Poke, PokeLocal, Drive, Mute, Remove, Revive, Board, Mend}
+use Rattle.s2_clock.specs.Frames.{IsFrame}
+use Rattle.s2_plant_laws.specs.FrameNumbers.{stated_wait_of}
 use Rattle.s2_triplex.specs.TriplexCores.{TriplexCore, IsTriplexCore}
 use Rattle.s2_triplex.specs.ModuleState.{ModuleState}
 use Rattle.s2_triplex.specs.TriplexState.{TriplexState, posted_at, started_triplex}
@@ -34,10 +35,11 @@ DecisionsFindAllLatched = (k : TriplexCore) (d : TriplexState) (mask : ℕ) → 
 -- so what such a tick decides is right, no verdict is split, and at a decision the request of no good processor has
 -- waited longer than the stated wait
 pub record TickDecisions (k : TriplexCore) (d : TriplexState) (mask : ℕ) : Type 0 where
-  pub right : (r : Request) (differ late : Option ℕ) → tick_verdict k d mask ≡ Done r differ late → DecisionFacts k (after_firings k d mask) r differ late
+  pub right : (r : Request) (differ late : Option ℕ) → tick_verdict k d mask ≡ Done r differ late →
+      DecisionFacts k (after_firings k d mask) r differ late
   pub never_split : tick_verdict k d mask ≢ Split
   pub waits : (r : Request) (differ late : Option ℕ) → tick_verdict k d mask ≡ Done r differ late → (p : ℕ) → p < 3 → IsGood d p →
-      (after_firings k d mask).ticks - posted_at (after_firings k d mask).posted p ≤ STATED_WAIT
+      (after_firings k d mask).ticks ≤ posted_at (after_firings k d mask).posted p + stated_wait_of d.frame
 
 abbrev pub TicksDecideRight : Type 0
 TicksDecideRight = (k : TriplexCore) (d : TriplexState) (mask : ℕ) → CanStep k d → d.ticks < 2 ^ 40 → tick_refusal d mask ≡ None → TickDecisions k d mask
@@ -55,7 +57,7 @@ EventKeepsInvariant = (k : TriplexCore) (d : TriplexState) (event : Event) → C
 -- a fault of a board that is not refused leaves the contents of global memory, too
 pub record BoardFaultInvariant (k : TriplexCore) (d : TriplexState) (fault : BoardFault) : Type 0 where
   pub step : StepInvariant k d (board_struck fault d) no_effects
-  pub contents : contents (board_struck fault d).boards ≡ contents d.boards
+  pub contents : memory_of (board_struck fault d).boards ≡ memory_of d.boards
 
 abbrev pub BoardFaultKeepsInvariant : Type 0
 BoardFaultKeepsInvariant = (k : TriplexCore) (d : TriplexState) (fault : BoardFault) → CanStep k d → IsFaultBelow GLOBAL_WORDS fault → act_refusal d (Board fault) ≡ None → BoardFaultInvariant k d fault
@@ -70,6 +72,7 @@ IsActWithoutRevive (Mute p) = Unit {0}
 IsActWithoutRevive (Remove p) = Unit {0}
 IsActWithoutRevive (Revive p) = ⊥
 IsActWithoutRevive (Board fault) = IsFaultBelow GLOBAL_WORDS fault
+IsActWithoutRevive (Mend board) = Unit {0}
 
 -- each that is not refused
 abbrev pub ActKeepsInvariant : Type 0
@@ -77,4 +80,4 @@ ActKeepsInvariant = (k : TriplexCore) (d : TriplexState) (act : Act) → CanStep
 
 -- the state at the start of a program
 abbrev pub FirstStateInvariant : Type 0
-FirstStateInvariant = (k : TriplexCore) (entry : ℕ) (local global : List ℕ) → IsTriplexCore k → length global ≡ GLOBAL_WORDS → TriplexInvariant k (started_triplex k.frame entry local global)
+FirstStateInvariant = (k : TriplexCore) (frame entry : ℕ) (local global : List ℕ) → IsTriplexCore k → IsFrame frame → length global ≡ GLOBAL_WORDS → TriplexInvariant k (started_triplex frame entry local global)

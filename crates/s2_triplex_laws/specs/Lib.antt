@@ -1,5 +1,6 @@
 pub mod LatchAgreement
 pub mod ReplicaEquality
+pub mod PrivateFacts
 pub mod ReferenceAdvance
 pub mod StepMasking
 pub mod DecisionFacts
@@ -18,3 +19,6 @@ pub mod BoardFaultSteps
 pub mod TriplexStates
 pub mod TriplexExecutions
 pub mod EventOrder
+pub mod BoardMending
+pub mod MendingGoesOn
+pub mod PromptEvents

@@ -27,21 +27,21 @@ abbrev pub GoodAreAhead : Type 0
 GoodAreAhead = (k : TriplexCore) (d : TriplexState) → IsTriplexCore k → ReplicaEquality k d → (p : ℕ) → p < 3 → IsGood d p → AheadOfReference k d p
 
 -- a processor that has passed a run count has a frame's end due exactly where a frame ends, and has passed none
-pub record FrameEndDue (k : TriplexCore) (d : TriplexState) (from p : ℕ) : Type 0 where
+pub record FrameEndDue (d : TriplexState) (from p : ℕ) : Type 0 where
   pub low : from ≤ run_at d.modules p
-  pub above : from < run_at d.modules p → (module_at d.modules p).due ≡ is_frame_end k.frame (run_at d.modules p)
-  pub none_past : (run : ℕ) → from < run → run < run_at d.modules p → is_frame_end k.frame run ≡ false
+  pub above : from < run_at d.modules p → (module_at d.modules p).due ≡ is_frame_end d.frame (run_at d.modules p)
+  pub none_past : (run : ℕ) → from < run → run < run_at d.modules p → is_frame_end d.frame run ≡ false
 
 -- so it is of every good one since the last resume; those that are still there have a frame's end due all or none,
 -- and where it is due none has gone on
-pub record FrameEndsDue (k : TriplexCore) (d : TriplexState) : Type 0 where
-  pub each : (p : ℕ) → p < 3 → IsGood d p → FrameEndDue k d d.resumed_run p
+pub record FrameEndsDue (d : TriplexState) : Type 0 where
+  pub each : (p : ℕ) → p < 3 → IsGood d p → FrameEndDue d d.resumed_run p
   pub due : Bool
   pub same : (p : ℕ) → p < 3 → IsGood d p → run_at d.modules p ≡ d.resumed_run → (module_at d.modules p).due ≡ due
-  pub stops : due ≡ true → (is_frame_end k.frame d.resumed_run ≡ true) × ((p : ℕ) → p < 3 → IsGood d p → run_at d.modules p ≡ d.resumed_run)
+  pub stops : due ≡ true → (is_frame_end d.frame d.resumed_run ≡ true) × ((p : ℕ) → p < 3 → IsGood d p → run_at d.modules p ≡ d.resumed_run)
 
 abbrev pub FrameEndsAreDue : Type 0
-FrameEndsAreDue = (k : TriplexCore) (d : TriplexState) → IsTriplexCore k → ReplicaEquality k d → FrameEndsDue k d
+FrameEndsAreDue = (k : TriplexCore) (d : TriplexState) → IsTriplexCore k → ReplicaEquality k d → FrameEndsDue d
 
 -- a run to a run count, and on to another, is one run
 abbrev pub DeliveredRunsAdd : Type 0

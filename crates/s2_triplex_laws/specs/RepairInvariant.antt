@@ -40,16 +40,17 @@ pub record ReintegrationOf (reintegration : Option Reintegration) (p : ℕ) : Ty
   pub is : reintegration ≡ Some of
   pub joiner : of.copying.joiner ≡ p
 
--- what every module is, also the tainted one
-pub record IsModule (m : ModuleState) : Type 0 where
+-- what every module is, also the tainted one, in a machine whose frame has so many cycles
+pub record IsModule (cycles : ℕ) (m : ModuleState) : Type 0 where
   pub fires : m.fires < REFRESH_PERIOD
   pub local : length m.local ≡ LOCAL_WORDS
   pub marks : length m.marks ≡ LOCAL_PAGES
+  pub frame : m.frame ≡ cycles
 
 -- the modules and the clocks of all three processors; a processor joins only where a reintegration of it is open,
 -- and what is then known of that
 pub record RepairInvariant (d : TriplexState) : Type 0 where
-  pub modules : (p : ℕ) → p < 3 → IsModule (module_at d.modules p)
+  pub modules : (p : ℕ) → p < 3 → IsModule d.frame (module_at d.modules p)
   pub fair : AreFair d.windows
   pub joining : (p : ℕ) → p < 3 → membership_at d.memberships p ≡ Joining → ReintegrationOf d.reintegration p
   pub opened : (j : Reintegration) → d.reintegration ≡ Some j → IsOpenReintegration d j

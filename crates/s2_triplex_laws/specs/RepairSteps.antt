@@ -38,7 +38,7 @@ TickKeepsRepair = (k : TriplexCore) (d : TriplexState) (mask : ℕ) → CanStepI
 
 -- a lawful act on one processor, whatever its module is then
 abbrev pub FaultKeepsRepair : Type 0
-FaultKeepsRepair = (k : TriplexCore) (d : TriplexState) (p : ℕ) (m : ModuleState) → CanStepInRepair k d → second_fault d.tainted p ≡ None → (p < 3 → IsModule m) →
+FaultKeepsRepair = (k : TriplexCore) (d : TriplexState) (p : ℕ) (m : ModuleState) → CanStepInRepair k d → second_fault d.tainted p ≡ None → (p < 3 → IsModule d.frame m) →
     RepairStep k d (module_disturbed p m d) no_effects
 
 abbrev pub RemovalKeepsRepair : Type 0

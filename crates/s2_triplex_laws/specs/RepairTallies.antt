@@ -2,7 +2,7 @@
 use Rattle.std.specs.Prelude.{ℕ, ◌≡◌, ◌<◌, ◌≤◌, ◌+◌, ◌*◌, ◌^◌, ◌==◌, ◌&&◌, Bool, true, Some, None, is_some}
 use Rattle.s2_ports.specs.declared.events.Event.{Event}
 use Rattle.s2_voter.specs.VoterState.{is_member, latch_of}
-use Rattle.s2_plant_laws.specs.declared.numbers.TheConstants.{STATED_REINTEGRATION}
+use Rattle.s2_plant_laws.specs.FrameNumbers.{stated_reintegration_of}
 use Rattle.s2_plant_laws.specs.RepairProgress.{RepairProgress}
 use Rattle.s2_plant_laws.specs.RepairBound.{RepairTally, TicksCounted, next_sync}
 use Rattle.s2_triplex.specs.declared.membership.Membership.TheVariants.{Out}
@@ -28,8 +28,8 @@ abbrev pub GoodAgreeOnSync : Type 0
 GoodAgreeOnSync = (k : TriplexCore) (d : TriplexState) → IsTriplexCore k → ReplicaEquality k d → (p : ℕ) → p < 3 → IsGood d p → ((module_at d.modules p).due && (run_at d.modules p == d.resumed_run)) ≡ is_sync_due d
 
 -- the run count of the next Sync
-abbrev pub next_sync_of : TriplexCore → TriplexState → ℕ
-next_sync_of k d = next_sync k.frame (is_sync_due d) d.resumed_run
+abbrev pub next_sync_of : TriplexState → ℕ
+next_sync_of d = next_sync d.frame (is_sync_due d) d.resumed_run
 
 -- each member is latched
 abbrev pub AllMembersLatched : TriplexState → Type 0
@@ -42,34 +42,34 @@ repair_tally d j = record { tick = d.resumed; run = d.resumed_run; revived = j.r
 -- Ticks are counted from the `revive` on; the next Sync comes within a frame for each that copied, and one more; a
 -- member's full port has its latch; all members are latched only where no tick was run since the `revive`; and
 -- Syncs and words are within their bounds.
-pub record IsRepairCounted (k : TriplexCore) (d : TriplexState) (j : Reintegration) : Type 0 where
+pub record IsRepairCounted (d : TriplexState) (j : Reintegration) : Type 0 where
   pub ticks : TicksCounted (repair_tally d j)
-  pub sync : next_sync_of k d ≤ j.revived_run + k.frame * (j.copying.syncs + 1)
+  pub sync : next_sync_of d ≤ j.revived_run + d.frame * (j.copying.syncs + 1)
   pub posts : (p : ℕ) → p < 3 → is_member d.voter p ≡ true → is_some (module_at d.modules p).port ≡ true → is_some (latch_of d.voter p) ≡ true
   pub past : j.revived ≤ d.ticks
   pub waits : AllMembersLatched d → d.ticks ≡ j.revived
   pub progress : RepairProgress j.copied j.copying
 
-abbrev pub RepairCounted : TriplexCore → TriplexState → Type 0
-RepairCounted k d = (j : Reintegration) → d.reintegration ≡ Some j → IsRepairCounted k d j
+abbrev pub RepairCounted : TriplexState → Type 0
+RepairCounted d = (j : Reintegration) → d.reintegration ≡ Some j → IsRepairCounted d j
 
 -- every kind of step keeps it
 abbrev pub TickCountsRepair : Type 0
-TickCountsRepair = (k : TriplexCore) (d : TriplexState) (mask : ℕ) → CanStepInRepair k d → d.ticks < 2 ^ 40 → tick_refusal d mask ≡ None → RepairCounted k d → RepairCounted k (ticked k d mask).next
+TickCountsRepair = (k : TriplexCore) (d : TriplexState) (mask : ℕ) → CanStepInRepair k d → d.ticks < 2 ^ 40 → tick_refusal d mask ≡ None → RepairCounted d → RepairCounted (ticked k d mask).next
 
 abbrev pub FaultCountsRepair : Type 0
-FaultCountsRepair = (k : TriplexCore) (d : TriplexState) (p : ℕ) (m : ModuleState) → CanStepInRepair k d → second_fault d.tainted p ≡ None → (p < 3 → IsModule m) → RepairCounted k d →
-    RepairCounted k (module_disturbed p m d)
+FaultCountsRepair = (k : TriplexCore) (d : TriplexState) (p : ℕ) (m : ModuleState) → CanStepInRepair k d → second_fault d.tainted p ≡ None → (p < 3 → IsModule d.frame m) → RepairCounted d →
+    RepairCounted (module_disturbed p m d)
 
 abbrev pub RemovalCountsRepair : Type 0
-RemovalCountsRepair = (k : TriplexCore) (d : TriplexState) (p : ℕ) → RepairCounted k (removed p d)
+RemovalCountsRepair = (k : TriplexCore) (d : TriplexState) (p : ℕ) → RepairCounted (removed p d)
 
 abbrev pub ReviveCountsRepair : Type 0
-ReviveCountsRepair = (k : TriplexCore) (d : TriplexState) (p : ℕ) → CanStepInRepair k d → p < 3 → membership_at d.memberships p ≡ Out → RepairCounted k (revived p d)
+ReviveCountsRepair = (k : TriplexCore) (d : TriplexState) (p : ℕ) → CanStepInRepair k d → p < 3 → membership_at d.memberships p ≡ Out → RepairCounted (revived p d)
 
 abbrev pub EventCountsRepair : Type 0
-EventCountsRepair = (k : TriplexCore) (d : TriplexState) (event : Event) → CanStepInRepair k d → RepairCounted k d → RepairCounted k (event_received event d)
+EventCountsRepair = (k : TriplexCore) (d : TriplexState) (event : Event) → CanStepInRepair k d → RepairCounted d → RepairCounted (event_received event d)
 
 -- while a reintegration is open, fewer ticks than the stated reintegration were run since its `revive`
 abbrev pub ReintegrationEndsInTime : Type 0
-ReintegrationEndsInTime = (k : TriplexCore) (d : TriplexState) (j : Reintegration) → IsTriplexCore k → TriplexInvariant k d → RepairInvariant d → RepairCounted k d → d.reintegration ≡ Some j → d.ticks < j.revived + STATED_REINTEGRATION
+ReintegrationEndsInTime = (k : TriplexCore) (d : TriplexState) (j : Reintegration) → IsTriplexCore k → TriplexInvariant k d → RepairInvariant d → RepairCounted d → d.reintegration ≡ Some j → d.ticks < j.revived + stated_reintegration_of d.frame

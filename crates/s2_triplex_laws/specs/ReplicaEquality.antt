@@ -26,8 +26,9 @@ pub record ReachedByCycles (k : TriplexCore) (start : Replica) (resumed ticks : 
 -- frame's end
 pub record ReplicaEquality (k : TriplexCore) (d : TriplexState) : Type 0 where
   pub start : Replica
+  pub frame : start.frame ≡ d.frame
   pub at : start.cpu.run ≡ d.resumed_run
-  pub ends : start.due ≡ true → is_frame_end k.frame start.cpu.run ≡ true
+  pub ends : start.due ≡ true → is_frame_end d.frame start.cpu.run ≡ true
   pub low : d.resumed_run ≤ d.resumed
   pub room : d.ticks ≤ 2 ^ 40
   pub each : (p : ℕ) → p < 3 → IsGood d p → ReachedByCycles k start d.resumed d.ticks (module_at d.modules p)

@@ -6,8 +6,9 @@ use Rattle.s2_base.specs.declared.map.TheConstants.{GLOBAL_WORDS}
 use Rattle.s2_ports.specs.declared.events.Event.{Event}
 use Rattle.s2_ports.specs.declared.events.BoardFault.{BoardFault}
 use Rattle.s2_ports.specs.declared.requests.Request.{Request}
-use Rattle.s2_duplex.specs.DuplexBoards.{contents}
-use Rattle.s2_duplex.specs.ToleratedFaults.{IsFaultBelow, is_tolerated}
+use Rattle.s2_revive.specs.MendingBoards.{memory_of}
+use Rattle.s2_revive.specs.MendingFaults.{is_fault_tolerated}
+use Rattle.s2_duplex.specs.ToleratedFaults.{IsFaultBelow}
 use Rattle.s2_voter.specs.declared.verdicts.Verdict.TheVariants.{Waiting, Done}
 use Rattle.s2_voter.specs.Verdicts.{is_due}
 use Rattle.s2_machine.specs.Cores.{is_sync}
@@ -91,7 +92,7 @@ EventKeepsMasking = (k : TriplexCore) (d : TriplexState) (event : Event) → IsR
 -- a fault of a board that is tolerated, which leaves the contents of global memory
 pub record BoardFaultMasking (k : TriplexCore) (d : TriplexState) (fault : BoardFault) : Type 0 where
   pub step : StepMasking k d (board_struck fault d) no_effects
-  pub contents : contents (board_struck fault d).boards ≡ contents d.boards
+  pub contents : memory_of (board_struck fault d).boards ≡ memory_of d.boards
 
 abbrev pub BoardFaultKeepsMasking : Type 0
-BoardFaultKeepsMasking = (k : TriplexCore) (d : TriplexState) (fault : BoardFault) → IsRunning k d → IsFaultBelow GLOBAL_WORDS fault → is_tolerated d.boards fault ≡ true → BoardFaultMasking k d fault
+BoardFaultKeepsMasking = (k : TriplexCore) (d : TriplexState) (fault : BoardFault) → IsRunning k d → IsFaultBelow GLOBAL_WORDS fault → is_fault_tolerated d.boards fault ≡ true → BoardFaultMasking k d fault

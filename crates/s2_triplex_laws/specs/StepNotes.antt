@@ -1,7 +1,7 @@
 -- The notes of a step: what they say of its deliveries, and how many there may be.
 use Rattle.std.specs.Prelude.{ℕ, ◌≡◌, ◌≤◌, List, [], ◌∷◌, None, length}
 use Rattle.s2_journal.specs.declared.note.Note.{Note}
-use Rattle.s2_journal.specs.declared.note.Note.TheVariants.{Delivered, Out, Lost, Repaired, BoardDead, Join, Joined}
+use Rattle.s2_journal.specs.declared.note.Note.TheVariants.{Delivered, Out, Lost, Repaired, BoardDead, Mend, Mended, Join, Joined}
 use Rattle.s2_script.specs.declared.entry.Act.{Act}
 use Rattle.s2_machine.specs.declared.deliveries.Delivery.{Delivery}
 use Rattle.s2_triplex.specs.TriplexCores.{TriplexCore}
@@ -20,6 +20,8 @@ deliveries_in (Out tick p why ∷ ns) = deliveries_in ns
 deliveries_in (Lost tick event ∷ ns) = deliveries_in ns
 deliveries_in (Repaired tick board index ∷ ns) = deliveries_in ns
 deliveries_in (BoardDead tick board ∷ ns) = deliveries_in ns
+deliveries_in (Mend tick board ∷ ns) = deliveries_in ns
+deliveries_in (Mended tick board ∷ ns) = deliveries_in ns
 deliveries_in (Join tick p ∷ ns) = deliveries_in ns
 deliveries_in (Joined tick p good ∷ ns) = deliveries_in ns
 

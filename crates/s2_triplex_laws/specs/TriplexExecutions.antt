@@ -7,9 +7,9 @@ use Rattle.s2_journal.specs.declared.note.Reason.{Reason}
 use Rattle.s2_machine.specs.declared.deliveries.Delivery.{Delivery}
 use Rattle.s2_machine.specs.Machine.{Machine, started}
 use Rattle.s2_machine.specs.MachineRun.{bytes_of, core_machine_run, single_run}
-use Rattle.s2_plant_laws.specs.declared.numbers.TheConstants.{STATED_REINTEGRATION}
+use Rattle.s2_clock.specs.Frames.{IsFrame}
+use Rattle.s2_plant_laws.specs.FrameNumbers.{stated_reintegration_of}
 use Rattle.s2_triplex.specs.TriplexCores.{TriplexCore, IsTriplexCore}
-use Rattle.s2_clock.specs.declared.numbers.TheConstants.{FRAME}
 use Rattle.s2_triplex.specs.R2000Triplex.{r2000_triplex}
 use Rattle.s2_triplex.specs.TriplexState.{TriplexState, Reintegration, started_triplex}
 use Rattle.s2_triplex.specs.ReferenceMachine.{reference, runs}
@@ -18,6 +18,8 @@ use Rattle.s2_triplex.specs.StepTurns.{Turn}
 use Rattle.s2_triplex_laws.specs.DecisionFacts.{GoodAreIn}
 use Rattle.s2_triplex_laws.specs.ReferenceAdvance.{DueUpTo, DueFrom}
 use Rattle.s2_triplex_laws.specs.StepNotes.{deliveries_in}
+use Rattle.s2_device.specs.DeviceState.{empty_slots}
+use Rattle.s2_triplex_laws.specs.PrivateFacts.{printed_slots}
 use Rattle.s2_triplex_laws.specs.TriplexStates.{IsActCall, IsTriplexState}
 
 -- the conditions of a call
@@ -67,7 +69,8 @@ AreInRunOrder (d ∷ ds) = DueFrom d.run ds × AreInRunOrder ds
 
 -- The bytes are those of one processor with flat memories from a machine, over the deliveries, and its machine is
 -- the reference machine then; the run counts of the deliveries never fall, and all are due; every good processor is
--- in; the state keeps all that a state keeps; and an open reintegration has not taken the stated time.
+-- in; the state keeps all that a state keeps; an open reintegration has not taken the stated time; and the slots of
+-- the devices are the private values that the deliveries print last.
 pub record IsExecution (k : TriplexCore) (m : Machine) (x : Execution) : Type 0 where
   pub from : m.cpu.run ≤ runs x.state
   pub is : core_machine_run k.core m x.deliveries (runs x.state) ≡ record { machine = reference x.state; bytes = x.bytes }
@@ -75,12 +78,13 @@ pub record IsExecution (k : TriplexCore) (m : Machine) (x : Execution) : Type 0 
   pub due : DueUpTo (runs x.state) x.deliveries
   pub good : GoodAreIn x.state
   pub state : IsTriplexState k x.state
-  pub in_time : (j : Reintegration) → x.state.reintegration ≡ Some j → x.state.ticks < j.revived + STATED_REINTEGRATION
+  pub in_time : (j : Reintegration) → x.state.reintegration ≡ Some j → x.state.ticks < j.revived + stated_reintegration_of x.state.frame
+  pub slots : x.state.device.slots ≡ printed_slots empty_slots x.deliveries
 
 -- so it is before the first step, and after each that is accepted
 abbrev pub ExecutionBegins : Type 0
-ExecutionBegins = (k : TriplexCore) (entry : ℕ) (local global : List ℕ) → IsTriplexCore k → length local ≡ LOCAL_WORDS → length global ≡ GLOBAL_WORDS →
-    IsExecution k (started entry local global) (execution_of (started_triplex k.frame entry local global))
+ExecutionBegins = (k : TriplexCore) (frame entry : ℕ) (local global : List ℕ) → IsTriplexCore k → IsFrame frame → length local ≡ LOCAL_WORDS → length global ≡ GLOBAL_WORDS →
+    IsExecution k (started entry local global) (execution_of (started_triplex frame entry local global))
 
 abbrev pub ExecutionGoesOn : Type 0
 ExecutionGoesOn = (k : TriplexCore) (m : Machine) (x : Execution) (s : TriplexStep) (turn : Turn) → IsTriplexCore k → IsExecution k m x → IsStepCall s → x.state.halt ≡ None → has_ticks_left x.state s ≡ true → step_answer k x.state s ≡ Ok turn →
@@ -88,8 +92,8 @@ ExecutionGoesOn = (k : TriplexCore) (m : Machine) (x : Execution) (s : TriplexSt
 
 -- so it is of every execution
 abbrev pub EveryExecution : Type 0
-EveryExecution = (k : TriplexCore) (entry : ℕ) (local global : List ℕ) (steps : List TriplexStep) → IsTriplexCore k → length local ≡ LOCAL_WORDS → length global ≡ GLOBAL_WORDS → All IsStepCall steps →
-    IsExecution k (started entry local global) (after_steps k (execution_of (started_triplex k.frame entry local global)) steps)
+EveryExecution = (k : TriplexCore) (frame entry : ℕ) (local global : List ℕ) (steps : List TriplexStep) → IsTriplexCore k → IsFrame frame → length local ≡ LOCAL_WORDS → length global ≡ GLOBAL_WORDS → All IsStepCall steps →
+    IsExecution k (started entry local global) (after_steps k (execution_of (started_triplex frame entry local global)) steps)
 
 -- and of the machine that is built: the bytes are those of the R2000 alone
 pub record IsR2000Execution (entry : ℕ) (local global : List ℕ) (x : Execution) : Type 0 where
@@ -97,5 +101,5 @@ pub record IsR2000Execution (entry : ℕ) (local global : List ℕ) (x : Executi
   pub execution : IsExecution r2000_triplex (started entry local global) x
 
 abbrev pub EveryR2000Execution : Type 0
-EveryR2000Execution = (entry : ℕ) (local global : List ℕ) (steps : List TriplexStep) → length local ≡ LOCAL_WORDS → length global ≡ GLOBAL_WORDS → All IsStepCall steps →
-    IsR2000Execution entry local global (after_steps r2000_triplex (execution_of (started_triplex FRAME entry local global)) steps)
+EveryR2000Execution = (frame entry : ℕ) (local global : List ℕ) (steps : List TriplexStep) → IsFrame frame → length local ≡ LOCAL_WORDS → length global ≡ GLOBAL_WORDS → All IsStepCall steps →
+    IsR2000Execution entry local global (after_steps r2000_triplex (execution_of (started_triplex frame entry local global)) steps)

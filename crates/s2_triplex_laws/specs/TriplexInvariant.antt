@@ -1,7 +1,7 @@
 -- What every state of the triple machine keeps: latches agree and replicas are equal, and the skew is bounded.
 use Rattle.std.specs.Prelude.{ℕ, ◌≡◌, ◌+◌, List, Bool, None, is_some}
 use Rattle.s2_clock.specs.ClockWatch.{window_at}
-use Rattle.s2_voter.specs.declared.voter.TheConstants.{DECISION_TIMER}
+use Rattle.s2_voter.specs.Timers.{timer_of}
 use Rattle.s2_voter.specs.VoterState.{latch_of}
 use Rattle.s2_plant_laws.specs.ClockPace.{ClockData}
 use Rattle.s2_plant_laws.specs.BoundedSkew.{SkewData, BoundedSkew}
@@ -39,8 +39,8 @@ asks_from k start i = is_outside (replica_ask k (after_local_cycles k i start))
 -- latches agree and replicas are equal; the next request comes within a frame, and the skew up to it is bounded
 pub record TriplexInvariant (k : TriplexCore) (d : TriplexState) : Type 0 where
   pub masking : Masking k d
-  pub next : NextRequest (asks_from k masking.replicas.start) k.frame
-  pub skew : BoundedSkew DECISION_TIMER (next.cycles + 1) (skew_data d)
+  pub next : NextRequest (asks_from k masking.replicas.start) d.frame
+  pub skew : BoundedSkew (timer_of d.frame) (next.cycles + 1) (skew_data d)
 
 -- a machine that keeps it and has not halted
 pub record CanStep (k : TriplexCore) (d : TriplexState) : Type 0 where

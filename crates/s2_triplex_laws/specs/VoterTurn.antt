@@ -46,7 +46,7 @@ after_answers differ late v = cleared_voter (without_named late (without_named d
 
 abbrev pub MembersLeaveByCalls : Type 0
 MembersLeaveByCalls = (d : TriplexState) (differ late : Option ℕ) → length d.voter.members ≡ 3 → IfSome differ (λ p. p < 3) → IfSome late (λ p. p < 3) →
-    after_answers differ late d.voter ≡ record { members = three_of (stays_member d (is_named differ late)); latches = no_latches; age = None }
+    after_answers differ late d.voter ≡ record { members = three_of (stays_member d (is_named differ late)); latches = no_latches; age = None; timer = d.voter.timer }
 
 -- whom a decision names is a processor
 abbrev pub NamedAreProcessors : Type 0

@@ -1,6 +1,6 @@
 //! The states of a triple machine, its steps, and whole executions.
 
-ghost use Rattle.s2_triplex_laws.specs.TriplexStates.{StartIsState, StartIsReference, TickKeepsState, ActKeepsState, TickAdvances, ActAdvances};
+ghost use Rattle.s2_triplex_laws.specs.TriplexStates.{StartIsState, StartIsReference, TickKeepsState, ActKeepsState, TickAdvances, ActAdvances, StepsKeepFrame};
 ghost use Rattle.s2_triplex_laws.specs.TriplexExecutions.{ExecutionBegins, ExecutionGoesOn, EveryExecution, EveryR2000Execution};
 
 /// The start of a program keeps all that a state keeps.
@@ -32,6 +32,11 @@ pub fn tick_advances()
 /// So does the turn of an act that is accepted.
 pub fn act_advances()
     ensures { ActAdvances }
+{}
+
+/// No step changes the frame.
+pub fn steps_keep_frame()
+    ensures { StepsKeepFrame }
 {}
 
 /// Before its first step a machine has written the bytes of one processor alone, over the deliveries told.

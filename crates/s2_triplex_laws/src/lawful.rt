@@ -48,12 +48,12 @@ pub fn act_keeps_invariant()
     ensures { ActKeepsInvariant }
 {}
 
-/// Between ticks a good processor's request has waited for fewer than 210 ticks.
+/// Between ticks a good processor's request has waited for less than the stated wait of the frame.
 pub fn requests_wait_briefly()
     ensures { RequestsWaitBriefly }
 {}
 
-/// At the verdict of a tick a good processor's request has waited for 210 ticks at most.
+/// At the verdict of a tick a good processor's request has waited for the stated wait of the frame at most.
 pub fn verdicts_come_in_time()
     ensures { VerdictsComeInTime }
 {}

@@ -2,4 +2,6 @@ pub mod RequestEquality
 pub mod VoterState
 pub mod VoterCalls
 pub mod Verdicts
+pub mod Timers
 pub mod VoterLaws
+pub mod VoterRests

@@ -6,7 +6,6 @@ use Rattle.s2_ports.specs.declared.requests.Posted.{Posted}
 use Rattle.s2_ports.specs.declared.requests.Request.{Request}
 use Rattle.s2_voter.specs.declared.verdicts.Verdict.{Verdict}
 use Rattle.s2_voter.specs.declared.verdicts.Verdict.TheVariants.{Waiting, Done, Split}
-use Rattle.s2_voter.specs.declared.voter.TheConstants.{DECISION_TIMER}
 use Rattle.s2_voter.specs.RequestEquality.{is_same_request}
 use Rattle.s2_voter.specs.VoterState.{VoterState, is_member, latch_of}
 
@@ -19,13 +18,13 @@ abbrev pub is_unlatched : VoterState → ℕ → Bool
 is_unlatched v p = is_member v p && is_none (latch_of v p)
 
 -- whether the age has reached the timer
-abbrev pub is_timed_out : Option ℕ → Bool
-is_timed_out None = false
-is_timed_out (Some age) = nat_le DECISION_TIMER age
+abbrev pub is_timed_out : ℕ → Option ℕ → Bool
+is_timed_out timer None = false
+is_timed_out timer (Some age) = nat_le timer age
 
 -- a decision is due where every member is latched, or where the timer has run out
 abbrev pub is_due : VoterState → Bool
-is_due v = list_all (λ p. not (is_unlatched v p)) processors || is_timed_out v.age
+is_due v = list_all (λ p. not (is_unlatched v p)) processors || is_timed_out v.timer v.age
 
 -- what a latch asks for
 abbrev pub request_of : Option Posted → Option Request

@@ -3,15 +3,15 @@ use Rattle.std.specs.Prelude.{ℕ, ◌+◌, List, [], ◌∷◌, Bool, true, fal
 use Rattle.std.specs.declared.option.Option.{Option}
 use Rattle.s2_ports.specs.declared.requests.Posted.{Posted}
 use Rattle.s2_voter.specs.VoterState.{VoterState, has_two_latches}
-use Rattle.s2_voter.specs.declared.voter.TheConstants.{DECISION_TIMER}
+use Rattle.s2_voter.specs.declared.timers.TheConstants.{DECISION_TIMER}
 
 -- no latch
 abbrev pub no_latches : List (Option Posted)
 no_latches = None ∷ None ∷ None ∷ []
 
--- three members, no latch and no age
+-- three members, no latch and no age, and the timer of a machine that is given no frame
 abbrev pub new_voter : VoterState
-new_voter = record { members = true ∷ true ∷ true ∷ []; latches = no_latches; age = None }
+new_voter = record { members = true ∷ true ∷ true ∷ []; latches = no_latches; age = None; timer = DECISION_TIMER }
 
 -- the second latch sets an absent age to 0
 abbrev pub started_age : Bool → Option ℕ → Option ℕ
@@ -34,7 +34,7 @@ remaining_age false age = None
 abbrev pub without_member : ℕ → VoterState → VoterState
 without_member p v =
     let latches = slice_set v.latches p None in
-    record { members = slice_set v.members p false; latches = latches; age = remaining_age (has_two_latches latches) v.age }
+    record { members = slice_set v.members p false; latches = latches; age = remaining_age (has_two_latches latches) v.age; timer = v.timer }
 
 -- processor p is a member
 abbrev pub with_member : ℕ → VoterState → VoterState
@@ -45,10 +45,14 @@ abbrev pub cleared_voter : VoterState → VoterState
 cleared_voter v = record v { latches = no_latches; age = None }
 
 -- a present age below the timer grows by one
-abbrev pub older : Option ℕ → Option ℕ
-older None = None
-older (Some age) = Some (if nat_lt age DECISION_TIMER then age + 1 else age)
+abbrev pub older : ℕ → Option ℕ → Option ℕ
+older timer None = None
+older timer (Some age) = Some (if nat_lt age timer then age + 1 else age)
 
 -- the voter one tick later
 abbrev pub ticked_voter : VoterState → VoterState
-ticked_voter v = record v { age = older v.age }
+ticked_voter v = record v { age = older v.timer v.age }
+
+-- the voter with another timer
+abbrev pub timed_voter : ℕ → VoterState → VoterState
+timed_voter timer v = record v { timer = timer }

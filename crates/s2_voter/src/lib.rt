@@ -4,12 +4,14 @@
 #![tactic(auto)]
 
 mod laws;
+mod timers;
 mod verdicts;
 mod voter;
 
 pub use laws::two_equal_latches_decide;
+pub use timers::{DECISION_TIMER, LONG_DECISION_TIMER, timer_of};
 pub use verdicts::Verdict;
-pub use voter::{DECISION_TIMER, Voter};
+pub use voter::Voter;
 
 #[cfg(test)]
 mod tests;

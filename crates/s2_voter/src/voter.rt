@@ -1,22 +1,20 @@
 //! The voter's state and its calls. A processor is 0, 1 or 2.
 
-ghost use Rattle.std.specs.Prelude.{◌≡◌, ◌<◌, true, false, IsSome, ◌↔◌, None};
+ghost use Rattle.s2_voter.specs.VoterRests.{aged_by, aged_voter, rest_of, ticks_to_decision};
+ghost use Rattle.std.specs.Prelude.{ℕ, ◌≡◌, ◌<◌, true, false, IsSome, ◌↔◌, None, ◌≤◌};
 ghost use Rattle.std.specs.Option.{option_map_or};
-ghost use Rattle.s2_voter.specs.VoterState.{IsVoter, has_two_latches, is_member, latch_of};
-ghost use Rattle.s2_voter.specs.VoterCalls.{cleared_voter, latched_voter, new_voter, older, remaining_age, started_age, ticked_voter, with_member, without_member};
+ghost use Rattle.s2_voter.specs.VoterState.{IsTimer, IsVoter, has_two_latches, is_member, latch_of, IsAge};
+ghost use Rattle.s2_voter.specs.VoterCalls.{cleared_voter, latched_voter, new_voter, older, remaining_age, started_age, ticked_voter, timed_voter, with_member, without_member};
 ghost use Rattle.s2_voter.specs.Verdicts.{agreed_request, differing_member, done_with, is_differing, is_due, is_timed_out, is_unlatched, late_member, verdict_of};
 
+use crate::timers::DECISION_TIMER;
 use crate::verdicts::{Verdict, agreed, holds};
 use arrayvec::ArrayVec;
 use s2_ports::{Posted, Request};
 use std::marker::Model;
 
-/// The age at which a decision is due although a member is not latched, in ticks since the second latch.
-///
-/// The number is this project's own.
-pub const DECISION_TIMER: u16 = 128;
-
-/// Who is a member, what the members ask for, and how many ticks ago the second of them asked.
+/// Who is a member, what the members ask for, how many ticks ago the second of them asked, and the age at which
+/// a decision is due although a member is not latched.
 ///
 /// Only members are latched.
 #[derive(Drop)]
@@ -24,6 +22,7 @@ pub struct Voter {
     members: [bool; 3],
     latches: ArrayVec<Option<Posted>, 3>,
     age: Option<u16>,
+    timer: u16,
 }
 
 impl Model for Voter {
@@ -31,9 +30,9 @@ impl Model for Voter {
 
     ghost Value = { VoterState };
 
-    ghost view = { λ v. record { members = v.members; latches = v.latches.items; age = v.age } };
+    ghost view = { λ v. record { members = v.members; latches = v.latches.items; age = v.age; timer = v.timer } };
 
-    ghost invariant = { λ v. IsVoter (record { members = v.members; latches = v.latches.items; age = v.age }) };
+    ghost invariant = { λ v. IsVoter (record { members = v.members; latches = v.latches.items; age = v.age; timer = v.timer }) };
 }
 
 /// Whether two processors at least are latched.
@@ -61,12 +60,12 @@ fn remaining(two: bool, age: Option<u16>) -> Option<u16>
 }
 
 /// The age one tick later.
-fn grown(age: Option<u16>) -> Option<u16>
-    ensures { result ≡ older age }
+fn grown(timer: u16, age: Option<u16>) -> Option<u16>
+    ensures { result ≡ older timer age }
 {
     match age {
         Some(age) => {
-            if age < DECISION_TIMER {
+            if age < timer {
                 Some(age + 1)
             } else {
                 Some(age)
@@ -76,12 +75,39 @@ fn grown(age: Option<u16>) -> Option<u16>
     }
 }
 
-/// Whether the timer has run out.
-fn timed_out(age: Option<u16>) -> bool
-    ensures { result ≡ is_timed_out age }
+/// The age so many ticks later.
+fn grown_by(timer: u16, age: Option<u16>, n: u64) -> Option<u16>
+    requires { IsAge timer age }
+    ensures { result ≡ aged_by timer n age }
 {
     match age {
-        Some(age) => age >= DECISION_TIMER,
+        Some(age) => {
+            if n < u64::from(timer - age) {
+                Some(age + n as u16)
+            } else {
+                Some(timer)
+            }
+        }
+        None => None,
+    }
+}
+
+/// How many ticks may pass before the timer runs out at one.
+fn rest(timer: u16, age: Option<u16>) -> u64
+    ensures { result ≡ rest_of timer age }
+{
+    match age {
+        Some(age) => u64::from(timer).saturating_sub(u64::from(age) + 1),
+        None => u64::MAX,
+    }
+}
+
+/// Whether the timer has run out.
+fn timed_out(timer: u16, age: Option<u16>) -> bool
+    ensures { result ≡ is_timed_out timer age }
+{
+    match age {
+        Some(age) => age >= timer,
         None => false,
     }
 }
@@ -95,7 +121,19 @@ impl Voter {
             members: [true; 3],
             latches: ArrayVec::from([None; 3]),
             age: None,
+            timer: DECISION_TIMER,
         }
+    }
+
+    /// The timer is another, [`DECISION_TIMER`](crate::DECISION_TIMER) or
+    /// [`LONG_DECISION_TIMER`](crate::LONG_DECISION_TIMER), in a voter without a latch.
+    pub fn set_timer(&mut self, timer: u16)
+        requires timer { IsTimer timer }
+        requires unlatched { (p : ℕ) → p < 3 → latch_of self.old p ≡ None }
+        ensures timed { self.new ≡ timed_voter timer self.old }
+        ensures kept { IsVoter self.new }
+    {
+        self.timer = timer;
     }
 
     /// Latches what `p`, a member without a latch, asks for. The second latch sets an absent age to 0.
@@ -146,7 +184,31 @@ impl Voter {
         ensures ticked { self.new ≡ ticked_voter self.old }
         ensures kept { IsVoter self.new }
     {
-        self.age = grown(self.age);
+        self.age = grown(self.timer, self.age);
+    }
+
+    /// So many ticks pass: a present age grows by them, to the timer at most.
+    pub fn age_by(&mut self, n: u64)
+        ensures aged { self.new ≡ aged_voter n self.old }
+        ensures kept { IsVoter self.new }
+    {
+        self.age = grown_by(self.timer, self.age, n);
+    }
+
+    /// The age: `None` exactly where it is absent.
+    pub fn age(&self) -> Option<u16>
+        ensures { result ≡ self.now.age }
+    {
+        self.age
+    }
+
+    /// How many ticks may pass without a decision: none where every member is latched.
+    pub fn rest(&self) -> u64
+        ensures rest { result ≡ ticks_to_decision self.now }
+        ensures kept { IsVoter self.now }
+    {
+        let waits = self.is_unlatched(0) || self.is_unlatched(1) || self.is_unlatched(2);
+        if waits { rest(self.timer, self.age) } else { 0 }
     }
 
     /// Whether `p`, which is below 3, is a member.
@@ -239,7 +301,7 @@ impl Voter {
         ensures { result ≡ is_due self.now }
     {
         let waits = self.is_unlatched(0) || self.is_unlatched(1) || self.is_unlatched(2);
-        !waits || timed_out(self.age)
+        !waits || timed_out(self.timer, self.age)
     }
 
     /// Whether `p` is a member without a latch.

@@ -97,6 +97,31 @@ fn events_are_delivered_at_the_next_frame_end(rt: HostRuntime) -> Result<(), Fai
 }
 
 #[test]
+fn line_1_may_choose_the_frame(rt: HostRuntime) -> Result<(), Fail> {
+    let row1 = Row {
+        file: &SPIN,
+        status: Status::Done,
+        report: b"d 64 key 61\nruns 64\nticks 65\nbytes 0\nend script\n",
+        ..Row::hello("a short frame", b"version 2 64\nkey 61\nt 7 65\n")
+    };
+    expect(&rt, &row1)?;
+    let row2 = Row {
+        file: &SPIN,
+        status: Status::Done,
+        report: b"out 4513 2 late\nruns 4579\nticks 5000\nbytes 0\nend script\n",
+        ..Row::hello("a long frame", b"version 2 4096\nmute 2\nt 7 5000\n")
+    };
+    expect(&rt, &row2)?;
+    let row3 = Row {
+        file: &SPIN,
+        status: Status::BadLine { line: 2, column: 1 },
+        report: b"runs 0\nticks 0\nbytes 0\nend bad 2 1\n",
+        ..Row::hello("a version line behind another", b"tick\nversion 2 64\n")
+    };
+    expect(&rt, &row3)
+}
+
+#[test]
 fn a_processor_that_differs_or_is_late_is_out(rt: HostRuntime) -> Result<(), Fail> {
     let row1 = Row {
         file: &SPIN,
@@ -145,6 +170,30 @@ fn a_step_outside_the_premises_ends_the_run(rt: HostRuntime) -> Result<(), Fail>
         ..Row::hello(
             "a second processor is disturbed",
             b"poke 0 8 00000001\npoke 1 8 00000001\n",
+        )
+    };
+    expect(&rt, &row2)
+}
+
+#[test]
+fn a_dead_board_is_mended(rt: HostRuntime) -> Result<(), Fail> {
+    let row1 = Row {
+        file: &GLOB,
+        status: Status::Done,
+        report: b"board 0 1\nmend 0 1\nmended 262399 1\nruns 260096\nticks 262399\nbytes 0\nend script\n",
+        ..Row::hello("a board is mended", b"dead 1\nmend 1\nt 7 262399\n")
+    };
+    expect(&rt, &row1)?;
+    let row2 = Row {
+        file: &GLOB,
+        status: Status::Outside {
+            line: 4,
+            reason: Reason::BothBoards { board: 0 },
+        },
+        report: b"board 0 1\nmend 0 1\nruns 1\nticks 1\nbytes 0\nend outside 4 board 0\n",
+        ..Row::hello(
+            "a flip beside a board that mends",
+            b"dead 1\nmend 1\nt 7 1\nflip 0 0 3\n",
         )
     };
     expect(&rt, &row2)

@@ -8,5 +8,7 @@ use Rattle.s2_cp0.proofs.registers.exception_cause.Goals as goal
 
 pub returns-clause-within : goal.returns-clause-within
 returns-clause-within c =
-    let value : c.if-in_slot.branch_delay + c.from.result * 2 ^ 28 + bit_and c.args.old CAUSE_WRITTEN + c.from-2.result * 4 ≡ cause_of c.args.old c.args.code c.args.unit c.args.in_slot = grind (arith, common_steps) in
+    let value :
+    c.if-in_slot.branch_delay + c.from-number.result * 2 ^ 28 + bit_and c.args.old CAUSE_WRITTEN + c.from.result * 4
+    ≡ cause_of c.args.old c.args.code c.args.unit c.args.in_slot = grind (arith, common_steps) in
     rw value (cause-within c.args.old c.args.code c.args.unit c.args.in_slot c.requires.code c.requires.unit)

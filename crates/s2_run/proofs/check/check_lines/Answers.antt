@@ -1,7 +1,4 @@
-use Rattle.std.proofs.Common.{ℕ, List, arith, subst}
-use Rattle.std.specs.Prelude.{Ok}
-use Rattle.s2_text.specs.LineTables.{ReadsLine}
-use Rattle.s2_script.specs.ScriptLines.{script_rows}
+use Rattle.std.proofs.Common.{arith, ◌∙◌}
 use Rattle.s2_run.proofs.LineList.{none_rest}
 use Rattle.s2_run.proofs.Checking.{check_line, check_bad, check_long, check_end, check_failed}
 use Rattle.s2_run.proofs.check.check_lines.Goals as goal
@@ -28,18 +25,18 @@ loop-size-preserved g c = record {
   told = λ s h.
       let r = c.loop-size.invariant.told s h in
       let i = c.in-Ok-Line in
-      check_line c.in-Ok.field-0 r (rw i.field-0-is at (i.ensures.told r.rest r.left_is (λ e. none_rest r.left_is (c.loop-size.invariant.ended s h e)))) (subst (λ (t : List ℕ). ReadsLine script_rows t (Ok c.in-Ok.field-0)) c.line.ensures c.in-Ok.ensures.read);
+      check_line c.in-Ok.field-0 r (rw i.field-0-is at (i.ensures.told r.rest r.left_is (λ e. none_rest r.left_is (c.loop-size.invariant.ended s h e)))) (rw c.line.ensures at c.in-Ok.ensures);
   ended = λ s h.
       let r = c.loop-size.invariant.told s h in
       c.in-Ok-Line.ensures.ended r.rest r.left_is (λ e. none_rest r.left_is (c.loop-size.invariant.ended s h e));
   below = let f = rw c.in-Ok-Line.field-0-is at c.in-Ok-Line.ensures.size in omega (arith, f.1);
   count = let f = rw c.in-Ok-Line.field-0-is at c.in-Ok-Line.ensures.size in omega (arith, f.0);
-  faults = omega (arith, c.in-Ok-Line.ensures.faults_stay);
+  faults = c.in-Ok-Line.ensures.passed ∙ c.loop-size.invariant.faults;
 }
 
-pub returns-in-Err-read_entry-clause-told : goal.returns-in-Err-read_entry-clause-told
-returns-in-Err-read_entry-clause-told g c = λ s h.
+pub returns-in-Err-entry_at-clause-told : goal.returns-in-Err-entry_at-clause-told
+returns-in-Err-entry_at-clause-told g c = λ s h.
     let r = c.loop-size.invariant.told s h in
     let i = c.in-Ok-Line in
     let f = rw i.field-0-is at i.ensures.size in
-    check_bad c.in-Err-read_entry.bad r (rw i.field-0-is at (i.ensures.told r.rest r.left_is (λ e. none_rest r.left_is (c.loop-size.invariant.ended s h e)))) (rw c.line.ensures at c.in-Err-read_entry.ensures.read) (omega (arith, f.1))
+    check_bad c.in-Err-entry_at.bad r (rw i.field-0-is at (i.ensures.told r.rest r.left_is (λ e. none_rest r.left_is (c.loop-size.invariant.ended s h e)))) (rw c.line.ensures at c.in-Err-entry_at.ensures) (omega (arith, f.1))

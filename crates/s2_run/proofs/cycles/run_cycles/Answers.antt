@@ -1,6 +1,6 @@
 use Rattle.std.proofs.Common.{◌≡◌, ◌+◌, ◌-◌, sym, ◌∙◌, ap, arith, true, false}
 use Rattle.std.specs.Prelude.{is_some}
-use Rattle.s2_run.proofs.ProgramCycles.{bytes_few}
+use Rattle.s2_single.proofs.ProgramCycles.{bytes_few}
 use Rattle.s2_run.proofs.Progress.{Finished, Broken, running_on, finish_halted, broken_off, none_from}
 use Rattle.s2_run.proofs.cycles.run_cycles.Goals as goal
 
@@ -41,6 +41,6 @@ loop-left-preserved g c =
           (c.burst-burst.ensures.run c.loop-left.invariant.run.bytes) (none_from _ halt) c.in-Ok.ensures.bytes (ap (λ n. c.loop-left.written + n) c.in-Ok.ensures.count);
       left = omega (arith, c.loop-left.invariant.left, c.burst-burst.ensures.some);
       bounded = omega (arith, c.loop-left.invariant.bounded, c.loop-left.invariant.left, c.burst-burst.ensures.some, c.in-Ok.ensures.count, bytes_few c.burst-burst.result.out);
-      faults = omega (arith, c.in-Ok.ensures.cause.faults_stay);
-      empty_takes = omega (arith, c.in-Ok.ensures.cause.empty_takes_stay);
+      faults = c.in-Ok.ensures.cause.whole.0 ∙ c.loop-left.invariant.faults;
+      empty_takes = c.in-Ok.ensures.cause.whole.1 ∙ c.loop-left.invariant.empty_takes;
     }

@@ -1,5 +1,5 @@
 use Rattle.std.proofs.Common.{◌≡◌, true, false, refl, sym, arith, ◌∙◌}
-use Rattle.s2_run.proofs.LineList.{read_byte, read_feed, read_end, end_none, end_some, read_long, read_failed}
+use Rattle.s2_run.proofs.LineList.{read_byte, read_fed, read_feed, read_end, end_none, end_some, read_long, read_failed}
 use Rattle.s2_run.proofs.lines.read_line.Goals as goal
 
 pub returns-in-Err-clause-told : goal.returns-in-Err-clause-told
@@ -37,7 +37,7 @@ loop-size-preserved g c = record {
       read_byte _ _ r i.field-0-is (i.ensures.byte r.rest r.left_is) i.ensures.rest (λ e. (let f = c.in-Held.ensures.ended.1 e in cc)) c.in-Held.ensures.line;
   going = c.loop-size.invariant.going;
   below = omega arith;
-  faults = omega (arith, c.in-Ok-Some.ensures.faults_stay);
+  faults = c.in-Ok-Some.ensures.passed ∙ c.loop-size.invariant.faults;
 }
 
 pub returns-then-size-eq0-clause-ended : goal.returns-then-size-eq0-clause-ended
@@ -57,3 +57,9 @@ returns-then-size-room-clause-ended g c = λ s h e t. absurd (let f : false ≡ 
 
 pub returns-in-Ended-clause-ended : goal.returns-in-Ended-clause-ended
 returns-in-Ended-clause-ended g c = λ s h e t. absurd (let f : false ≡ true = sym c.loop-size.invariant.going ∙ t in cc)
+
+pub returns-in-Ended-clause-fed : goal.returns-in-Ended-clause-fed
+returns-in-Ended-clause-fed g c = λ s h e.
+    let r = c.loop-size.invariant.told s h in
+    let i = c.in-Ok-Some in
+    read_fed _ _ r i.field-0-is (i.ensures.byte r.rest r.left_is) i.ensures.rest (c.in-Ended.ensures.ended.0 refl)

@@ -1,7 +1,7 @@
-use Rattle.std.proofs.Common.{arith}
+use Rattle.std.proofs.Common.{arith, refl}
 use Rattle.std.proofs.Math.Seq.{drop-cons}
 use Rattle.std.proofs.lemmas.Option.{slice_get-get_or}
-use Rattle.s2_run.proofs.ScriptStages.{stays_twice}
+use Rattle.s2_run.proofs.ScriptStages.{same_twice}
 use Rattle.s2_run.proofs.EntryRuns.{entries_start, entries_go_on, entries_end, entries_cut, entries_over, proper_entry, drop_past}
 use Rattle.s2_run.proofs.load.run_entries.Goals as goal
 
@@ -12,8 +12,8 @@ loop-i-init g c = record {
   ticks = omega (arith, c.requires.ticks);
   accepted = omega (arith, c.requires.events);
   room = omega arith;
-  console_stays = record { faults = omega arith; empty_takes = omega arith };
-  report_stays = record { faults = omega arith; empty_takes = omega arith };
+  console_same = record { faults = refl; empty_takes = refl };
+  report_same = record { faults = refl; empty_takes = refl };
 }
 
 pub run_entry-requires-clause-proper : goal.run_entry-requires-clause-proper
@@ -39,6 +39,6 @@ loop-i-preserved g c =
       ticks = went.ticks;
       accepted = omega (arith, went.accepted, c.loop-i.invariant.accepted);
       room = omega (arith, went.room, c.loop-i.invariant.room);
-      console_stays = stays_twice c.loop-i.invariant.console_stays c.in-Ok-None.ensures.cause.console_stays;
-      report_stays = stays_twice c.loop-i.invariant.report_stays c.in-Ok-None.ensures.cause.report_stays;
+      console_same = same_twice c.loop-i.invariant.console_same c.in-Ok-None.ensures.cause.passed.0;
+      report_same = same_twice c.loop-i.invariant.report_same c.in-Ok-None.ensures.cause.passed.1;
     }

@@ -1,7 +1,7 @@
-use Rattle.std.proofs.Common.{ℕ, List, arith, subst}
+use Rattle.std.proofs.Common.{ℕ, List, arith, subst, refl, inl, ◌∙◌}
 use Rattle.std.specs.Prelude.{Ok, Err}
 use Rattle.s2_journal.specs.ReportOrder.{ReadsNext}
-use Rattle.s2_run.proofs.LineList.{none_rest}
+use Rattle.s2_run.proofs.LineList.{fed_more, none_rest}
 use Rattle.s2_run.proofs.Replaying.{replaying_none, replay_line, replay_bad, replay_long, replay_ended, replay_failed, replay_cut}
 use Rattle.s2_run.proofs.replay.replay_lines.Goals as goal
 
@@ -9,19 +9,20 @@ pub loop-order-init : goal.loop-order-init
 loop-order-init g c = record {
   told = λ s h. replaying_none c.args.machine.now s _ _ _ c.requires c.new-order.ensures h;
   ended = λ s h e. absurd cc;
+  fed = λ s h e. inl refl;
   below = omega arith;
   count = omega arith;
   written = omega arith;
   range = omega (arith, c.requires);
-  faults = omega arith;
-  console_faults = omega arith;
-  empty_takes = omega arith;
+  faults = refl;
+  console_faults = refl;
+  empty_takes = refl;
 }
 
 pub returns-in-Err-clause-told : goal.returns-in-Err-clause-told
 returns-in-Err-clause-told g c = λ s report h.
     let r = c.loop-order.invariant.told s h in
-    replay_failed _ report r (c.in-Err.ensures.told r.rest r.left_is (λ e. none_rest r.left_is (c.loop-order.invariant.ended s h e))) c.loop-order.invariant.below
+    replay_failed _ report r (c.in-Err.ensures.told r.rest r.left_is (λ e. none_rest r.left_is (c.loop-order.invariant.ended s h e))) c.loop-order.invariant.below (c.loop-order.invariant.fed s h c.in-Err.ensures.going)
 
 pub returns-in-Ok-End-clause-told : goal.returns-in-Ok-End-clause-told
 returns-in-Ok-End-clause-told g c = λ s report h.
@@ -56,13 +57,16 @@ loop-order-preserved g c =
       ended = λ s h.
           let r = c.loop-order.invariant.told s h in
           i.ensures.ended r.rest r.left_is (λ e. none_rest r.left_is (c.loop-order.invariant.ended s h e));
+      fed = λ s h e.
+          let r = c.loop-order.invariant.told s h in
+          fed_more s r.rest _ _ r.rest_is ((rw i.field-0-is at (i.ensures.fed r.rest r.left_is)) e);
       below = omega (arith, f.1);
       count = omega (arith, f.0);
       written = omega (arith, ran.ensures.steps);
       range = ran.ensures.range c.loop-order.invariant.range;
-      faults = omega (arith, i.ensures.faults_stay);
-      console_faults = omega (arith, ran.ensures.cause.faults_stay);
-      empty_takes = omega (arith, ran.ensures.cause.empty_takes_stay);
+      faults = i.ensures.passed ∙ c.loop-order.invariant.faults;
+      console_faults = ran.ensures.cause.whole.0 ∙ c.loop-order.invariant.console_faults;
+      empty_takes = ran.ensures.cause.whole.1 ∙ c.loop-order.invariant.empty_takes;
     }
 
 pub returns-in-Err-run_line-clause-told : goal.returns-in-Err-run_line-clause-told

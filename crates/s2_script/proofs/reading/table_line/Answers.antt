@@ -14,5 +14,6 @@ returns c =
     (rows_more _ _ _ _ _ _ c.remove.ensures
     (rows_more _ _ _ _ _ _ c.revive.ensures
     (rows_more _ _ _ _ _ _ c.dead.ensures
-    (rows_last _ _ _ c.flip-found.ensures refl)
-    c.either-found.ensures refl) c.either-found-2.ensures refl) c.either-found-3.ensures refl) c.either-found-4.ensures refl) c.either-found-5.ensures refl) c.either-found-6.ensures refl) c.either-found-7.ensures refl) c.either-found-8.ensures refl) c.either-found-9.ensures refl) c.either.ensures refl
+    (rows_more _ _ _ _ _ _ c.flip.ensures
+    (rows_last _ _ _ c.mend-found.ensures refl)
+    c.either-found.ensures refl) c.either-found-2.ensures refl) c.either-found-3.ensures refl) c.either-found-4.ensures refl) c.either-found-5.ensures refl) c.either-found-6.ensures refl) c.either-found-7.ensures refl) c.either-found-8.ensures refl) c.either-found-9.ensures refl) c.either-found-10.ensures refl) c.either.ensures refl

@@ -1,0 +1,4 @@
+pub mod MendedWords
+pub mod MendingMemory
+pub mod MendedParity
+mod IdleTurns
