@@ -22,6 +22,7 @@ from torture_runs import (
     from_terminal,
     growing,
     hang_up,
+    leave,
     paced,
     play,
     slowly,
@@ -59,7 +60,7 @@ def files(room, rng, quick):
         for at in range(min(200, len(data))):
             for mask in {0xFF, 1 << rng.randrange(8)} if quick else [0xFF, *(1 << bit for bit in range(8))]:
                 flips.append(file_case(f"{name} byte {at} ^ {mask:02x}", lambda data=data, at=at, mask=mask: flipped(data, at, mask)))
-    return some(cuts, rng, quick, 100) + some(flips, rng, quick, 300) + headers(room, rng, quick)
+    return some(cuts, rng, quick, 300) + some(flips, rng, quick, 900) + headers(room, rng, quick)
 
 
 def flipped(data, at, mask):
@@ -75,7 +76,7 @@ def headers(room, rng, quick):
     for (at, size), number in itertools.product(places, corners):
         made = data[:at] + (number % 256**size).to_bytes(size, "big") + data[at + size :]
         found.append(file_case(f"segments.elf number at {at} is {number:x}", lambda made=made: made))
-    return some(found, rng, quick, 60)
+    return some(found, rng, quick, 120)
 
 
 # Scripts and reports that are cut.
@@ -96,7 +97,7 @@ def scripts(room, rng, quick):
                 given = data[: start + size] + data[start + len(line) :]
                 checks.append(check_case(f"{name} line {number} cut to {size} bytes", given))
             start += len(line) + 1
-    return some(runs, rng, quick, 120) + some(checks, rng, quick, 120)
+    return some(runs, rng, quick, 300) + some(checks, rng, quick, 300)
 
 
 def script_case(name, elf, file, given, group="script"):
@@ -127,7 +128,7 @@ def random_line(rng):
 def random_scripts(room, rng, quick):
     """Scripts of lines that the tables allow, and of a few that they do not, over the examples."""
     found = []
-    for number in range(200 if quick else 5000):
+    for number in range(500 if quick else 5000):
         elf = rng.choice([it for it in room.examples if it not in ("squeeze.elf", "repair.elf")])
         given = b"".join(random_line(rng) + b"\n" for _ in range(rng.randrange(1, 12)))
         given = given.replace(b"\n\n", b"\n") if rng.random() < 0.5 else given
@@ -151,7 +152,7 @@ def reports(room, rng, quick):
             if chr(data[at]).isdigit():  # it might become a number of cycles that takes hours
                 continue
             found.append(report_case(f"{name} byte {at} changed", elf, file, flipped(data, at, 1 << rng.randrange(8))))
-    return some(found, rng, quick, 200)
+    return some(found, rng, quick, 400)
 
 
 def report_case(name, elf, file, given):
@@ -269,29 +270,32 @@ def byte_ticks(room):
 def leaving(room, rng, quick):
     """A reader of the console, or of the report, that leaves after so many bytes."""
     line, ticks = ["run", "poked-processor.elf"], byte_ticks(room)
-    shut = lambda child, pipe: pipe.close()
     for size in some(range(len(ticks) - 1), rng, quick, 6):
         first = b"t 7 %d\n" % ticks[size] if ticks[size] else b""
         whole = room.whole(line, first + PLAIN)
         judge = lambda out, whole=whole: is_front(out, 7, whole)
-        yield Case(f"streams poked: the console's reader leaves after {size} bytes", line, judge, first + PLAIN, how=paced("console", size, first, shut))
+        yield Case(f"streams poked: the console's reader leaves after {size} bytes", line, judge, first + PLAIN, how=paced("console", size, first, leave))
     given = b"t 7 59\npoke 1 16 0000002a\nt 7 7\n" + PLAIN
     whole = room.whole(line, given)
     for size in range(len(b"out 66 1 differ\n") + 1):
         judge = lambda out, whole=whole: is_front(out, 7, whole, whole.report)
         first = given[: -len(PLAIN)] if size else b""
-        yield Case(f"streams poked: the report's reader leaves after {size} bytes", line, judge, given, how=paced("report", size, first, shut))
+        yield Case(f"streams poked: the report's reader leaves after {size} bytes", line, judge, given, how=paced("report", size, first, leave))
 
 
 def endless(room, quick):
-    """Inputs without an end: a line that is too long is bad at once for `run`, and takes all that may be read for `check`."""
+    """Inputs without an end: a byte more is taken than an input may have."""
     if quick:
         return
-    yield Case("streams check: its input is endless", ["check"], lambda out: is_exactly(out, 9, report=b"toolong 1\n"), streams="</dev/zero")
-    report = b"runs 0\nticks 0\nbytes 0\nend toolong 1\n"
-    yield Case("streams run: its input is endless", ["run", "hello.elf"], lambda out: is_exactly(out, 9, report=report), streams="</dev/zero")
-    report = b"runs 0\nbytes 0\nend toolong 1\n"
-    yield Case("streams single: its input is endless", ["single", "hello.elf"], lambda out: is_exactly(out, 9, report=report), streams="</dev/zero")
+    reports = {
+        "check": b"toolong 1\n",
+        "run": b"runs 0\nticks 0\nbytes 0\nend toolong 1\n",
+        "single": b"runs 0\nbytes 0\nend toolong 1\n",
+    }
+    for command, report in reports.items():
+        line = [command] + ["hello.elf"] * (command != "check")
+        judge = lambda out, report=report: is_exactly(out, 9, report=report)
+        yield Case(f"streams {command}: its input is endless", line, judge, streams="</dev/zero", seconds=900)
 
 
 # Names of files, and files that are none.
@@ -378,7 +382,7 @@ def least(room, flag, line, given, most):
 
 def limits(room, rng, quick):
     """Memory, stack, descriptors and sizes that are limited, from where the program starts at all."""
-    start = least(room, "-v", ["walk"], b"", 2**22)
+    start, files = least(room, "-v", ["walk"], b"", 2**22), least(room, "-n", ["walk"], b"", 64)
     for name, line, given, whole in commands(room):
         if name in ("usage", "refused", "check of a bad line"):
             continue
@@ -388,16 +392,21 @@ def limits(room, rng, quick):
             yield Case(f"limits {name}: {size} KiB of memory", line, refused_memory(whole), given, limits=f"ulimit -v {size};")
     for name, line, given, whole in commands(room):
         same = lambda out, whole=whole: is_exactly(out, whole.status, whole.console, whole.report)
-        opens = line[0] in ("run", "single")
-        yield Case(f"limits {name}: 3 descriptors", line, (lambda out: is_exactly(out, 6, taken=0)) if opens else same, given, limits="ulimit -n 3;")
-        yield Case(f"limits {name}: 4 descriptors", line, same, given, limits="ulimit -n 4;")
+        for count in (files, files + 1):
+            yield Case(f"limits {name}: {count} descriptors", line, same, given, limits=f"ulimit -n {count};")
         yield Case(f"limits {name}: no core, no locked memory", line, same, given, limits="ulimit -c 0; ulimit -l 0;")
         for size in (1024, 256):
             yield Case(f"limits {name}: {size} KiB of stack", line, same, given, limits=f"ulimit -s {size};")
         for stream in (1, 2):
             judge = broken(whole, stream == 1, stream == 2)
-            full = f"trap '' XFSZ; ulimit -f 0;"
-            yield Case(f"limits {name}: stream {stream} is a file that may not grow", line, judge, given, limits=full, streams=f"{stream}>>full")
+            yield Case(f"limits {name}: stream {stream} may not grow", line, judge, given, limits="trap '' XFSZ; ulimit -f 0;", streams=f"{stream}>>full")
+            judge = ended_by_size(whole, judge)
+            yield Case(f"limits {name}: stream {stream} may not grow, by its signal", line, judge, given, limits="ulimit -f 0;", streams=f"{stream}>>full")
+
+
+def ended_by_size(whole, judge):
+    """A run that the system's signal for a file's size ended, as docs/FORMATS.md has it, or that wrote nothing there."""
+    return lambda out: is_front(out, -signal.SIGXFSZ, whole) if out.status == -signal.SIGXFSZ else judge(out)
 
 
 def refused_memory(whole):

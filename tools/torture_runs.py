@@ -16,7 +16,9 @@ import time
 from judging import FORMATS, Outcome
 from sources import TOP
 
-SECONDS = 120  # no run takes as long
+SECONDS = 60  # no run takes as long
+# A run that is being started has a copy of each open end of a pipe for a moment, so no end is closed meanwhile.
+STARTING = threading.Lock()
 NOBODY = 65534
 
 
@@ -31,10 +33,10 @@ class Case:
     that the word FILE stands for. `how` runs it in another way than from a file of input.
     """
 
-    def __init__(self, name, words, judge, given=b"", limits="", streams="", file=None, how=None, replay=False, nobody=False):
+    def __init__(self, name, words, judge, given=b"", limits="", streams="", file=None, how=None, replay=False, nobody=False, seconds=SECONDS):
         self.name, self.group, self.words, self.judge, self.given = name, name.split()[0], words, judge, given
         self.limits, self.streams, self.file, self.how = limits, streams, file, how
-        self.replay, self.nobody = replay, nobody
+        self.replay, self.nobody, self.seconds = replay, nobody, seconds
         self.command = " ".join([limits, "s2", *(shlex.quote(os.fsdecode(it)[:60]) for it in words[:6]), streams, self.told()])
 
     def told(self):
@@ -80,17 +82,24 @@ def begin(case, room, words, stdin, stdout=subprocess.PIPE, stderr=subprocess.PI
     """Starts the program by a shell, whose place it takes."""
     line = f'{case.limits} exec "$0" "$@" {case.streams}'
     user = {"user": NOBODY, "group": NOBODY, "extra_groups": []} if case.nobody and os.getuid() == 0 else {}
-    return subprocess.Popen(["sh", "-c", line, room.program, *words], cwd=room.folder, stdin=stdin, stdout=stdout, stderr=stderr, **user)
+    with STARTING:
+        return subprocess.Popen(["sh", "-c", line, room.program, *words], cwd=room.folder, stdin=stdin, stdout=stdout, stderr=stderr, **user)
 
 
-def end(child, given=None):
+def leave(_, pipe):
+    """The reader of a pipe leaves."""
+    with STARTING:
+        pipe.close()
+
+
+def end(child, given=None, seconds=SECONDS):
     """Waits for a run, and gives what it wrote."""
     try:
-        console, report = child.communicate(given, timeout=SECONDS)
+        console, report = child.communicate(given, timeout=seconds)
     except subprocess.TimeoutExpired:
         child.kill()
         child.communicate()
-        raise Hung(f"it runs for {SECONDS} seconds") from None
+        raise Hung(f"it runs for {seconds} seconds") from None
     return child.returncode, console or b"", report or b""
 
 
@@ -100,7 +109,7 @@ def from_file(case, room, words, given):
         file.write(given)
         file.flush()
         os.lseek(file.fileno(), 0, os.SEEK_SET)
-        status, console, report = end(begin(case, room, words, file))
+        status, console, report = end(begin(case, room, words, file), seconds=case.seconds)
         return Outcome(status, console, report, os.lseek(file.fileno(), 0, os.SEEK_CUR))
 
 
@@ -242,10 +251,10 @@ def paced(stream, count, first, then):
             found = read_some(pipes[stream], count)
             then(child, pipes[stream])
             given = case.given[len(first) :]
-        except OSError as fault:
+        except (OSError, Hung) as fault:
             child.kill()
             child.communicate()
-            raise Hung(f"it takes no input: {fault}") from None
+            raise Hung(f"it goes no further: {fault}") from None
         kept = {"console": b"", "report": b"", stream: found}
         readers = [threading.Thread(target=drain, args=(kept, name, pipe)) for name, pipe in pipes.items() if not pipe.closed]
         for reader in readers:
