@@ -1,0 +1,16 @@
+pub mod LabelMaps
+pub mod Steps
+pub mod Walk
+pub mod Targets
+pub mod Growing
+pub mod Good
+pub mod Stages
+pub mod LaterWalk
+pub mod TableTexts
+pub mod ListedTexts
+pub mod ListedFaults
+pub mod ListedImages
+pub mod ListedPlaces
+pub mod ListedLines
+pub mod Limits
+pub mod OneMeaning

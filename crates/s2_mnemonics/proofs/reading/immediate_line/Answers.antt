@@ -1,0 +1,14 @@
+use Rattle.std.proofs.Common.{refl}
+use Rattle.s2_text.proofs.TableRows.{rows_more, rows_last}
+use Rattle.s2_mnemonics.proofs.reading.immediate_line.Goals as goal
+
+pub returns : goal.returns
+returns c =
+    rows_more _ _ _ _ _ _ c.signed_immediate-4.ensures
+    (rows_more _ _ _ _ _ _ c.signed_immediate-3.ensures
+    (rows_more _ _ _ _ _ _ c.signed_immediate-2.ensures
+    (rows_more _ _ _ _ _ _ c.signed_immediate.ensures
+    (rows_more _ _ _ _ _ _ c.unsigned_immediate-3.ensures
+    (rows_more _ _ _ _ _ _ c.unsigned_immediate-2.ensures
+    (rows_more _ _ _ _ _ _ c.unsigned_immediate.ensures
+    (rows_last _ _ _ c.lui-found.ensures refl) c.either-found.ensures refl) c.either-found-2.ensures refl) c.either-found-3.ensures refl) c.either-found-4.ensures refl) c.either-found-5.ensures refl) c.either-found-6.ensures refl) c.either.ensures refl

@@ -1,0 +1,18 @@
+use Rattle.std.proofs.Common.{refl}
+use Rattle.s2_text.proofs.TableRows.{rows_more, rows_last}
+use Rattle.s2_mnemonics.proofs.reading.memory_line.Goals as goal
+
+pub returns : goal.returns
+returns c =
+    rows_more _ _ _ _ _ _ c.memory-11.ensures
+    (rows_more _ _ _ _ _ _ c.memory-10.ensures
+    (rows_more _ _ _ _ _ _ c.memory-9.ensures
+    (rows_more _ _ _ _ _ _ c.memory-8.ensures
+    (rows_more _ _ _ _ _ _ c.memory-7.ensures
+    (rows_more _ _ _ _ _ _ c.memory-6.ensures
+    (rows_more _ _ _ _ _ _ c.memory-5.ensures
+    (rows_more _ _ _ _ _ _ c.memory-4.ensures
+    (rows_more _ _ _ _ _ _ c.memory-3.ensures
+    (rows_more _ _ _ _ _ _ c.memory-2.ensures
+    (rows_more _ _ _ _ _ _ c.memory.ensures
+    (rows_last _ _ _ c.memory-found.ensures refl) c.either-found.ensures refl) c.either-found-2.ensures refl) c.either-found-3.ensures refl) c.either-found-4.ensures refl) c.either-found-5.ensures refl) c.either-found-6.ensures refl) c.either-found-7.ensures refl) c.either-found-8.ensures refl) c.either-found-9.ensures refl) c.either-found-10.ensures refl) c.either.ensures refl

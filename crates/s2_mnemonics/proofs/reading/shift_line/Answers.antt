@@ -1,0 +1,9 @@
+use Rattle.std.proofs.Common.{refl}
+use Rattle.s2_text.proofs.TableRows.{rows_more, rows_last}
+use Rattle.s2_mnemonics.proofs.reading.shift_line.Goals as goal
+
+pub returns : goal.returns
+returns c =
+    rows_more _ _ _ _ _ _ c.shift-2.ensures
+    (rows_more _ _ _ _ _ _ c.shift.ensures
+    (rows_last _ _ _ c.shift-found.ensures refl) c.either-found.ensures refl) c.either.ensures refl

@@ -1,0 +1,5 @@
+use Rattle.std.proofs.Common.{◌∙◌, append_assoc}
+use Rattle.s2_mnemonics.proofs.writing.put_two_there.Goals as goal
+
+pub returns : goal.returns
+returns c = c.put_next_address.ensures ∙ (rw (c.put_register.ensures.text, c.put_first.ensures.text) (simp append_assoc))

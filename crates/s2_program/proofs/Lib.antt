@@ -1,0 +1,5 @@
+pub mod FileBytes
+pub mod FileHeaders
+pub mod FileConditions
+pub mod FileWords
+pub mod PartWords
